@@ -11,7 +11,8 @@ use Rattle.layout.specs.declared.path.Meeting.{Meeting}
 use Rattle.layout.specs.Gates.{gateOf, wayOf, gateCells, cellsOf, cellOf}
 
 abbrev pub meeting : ℕ → ℕ → ℕ → Meeting
-meeting w p h = record { base = cellOf w (gateOf w p h) 0; ways = w; way = record { 0 = wayOf w p h } }
+meeting w p h =
+    record { seat = record { 0 = p }; height = h; base = cellOf w (gateOf w p h) 0; ways = w; way = record { 0 = wayOf w p h } }
 
 abbrev pub meetingOf : ℕ → ℕ → ℕ → Option Meeting
 meetingOf w p h = cond (leb 1 h && ltb h w) (Some (meeting w p h)) None
@@ -20,4 +21,5 @@ pub record Inside (m : Meeting) : Type 0 where
   pub few : 2 ≤ m .ways
   pub most : m .ways ≤ 4
   pub cells : m .base + gateCells (m .ways) ≤ cellsOf (m .ways)
+  pub small : m .base + gateCells (m .ways) ≤ 252
   pub way : m .way .0 < m .ways

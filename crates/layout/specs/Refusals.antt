@@ -3,7 +3,7 @@
 --     refusal n p     the refusal with number n of a call that names seat p
 --     unfit p h c     the refusal of an unfit word in cell c, read by seat p at height h
 --     refusalOf e     what each fault says
---     told r          an answer with its fault as the refusal that it says
+--     told r          an answer with its fault as the refusal that it says; toldAs f r has f of the value too
 use Prim.Native.Nat.{ℕ}
 use Rattle.std.specs.declared.result.Result.{Result}
 use Rattle.std.specs.declared.result.Result.the-variants.{Ok, Err}
@@ -34,3 +34,7 @@ refusalOf (Store e) = refusal (storeNumber e) 0
 abbrev pub told : {A : Type 0} → Result A BoxFault → Result A Refusal
 told (Ok x) = Ok x
 told (Err e) = Err (refusalOf e)
+
+abbrev pub toldAs : {A B : Type 0} → (A → B) → Result A BoxFault → Result B Refusal
+toldAs f (Ok x) = Ok (f x)
+toldAs f (Err e) = Err (refusalOf e)

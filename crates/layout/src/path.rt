@@ -14,10 +14,15 @@ pub struct Path {
     ghost known: { seat .0 < seatsOf ways },
 }
 
-// A gate as a seat meets it: the first of the gate's cells, how many ways the gate has, and the seat's way into it.
+// A gate as a seat meets it at a height.
 #[derive(Clone, Copy)]
 pub struct Meeting {
+    pub seat: SeatId,
+    pub height: u8,
+    // the first of the gate's cells
     pub base: u16,
+    // how many ways the gate has
     pub ways: u8,
+    // the seat's way into it
     pub way: WayId,
 }

@@ -1,0 +1,10 @@
+pub mod Codes
+pub mod Pawns
+pub mod Outcomes
+pub mod Climb
+pub mod Abort
+pub mod Release
+pub mod Collect
+pub mod HelpRelease
+pub mod Promote
+pub mod Polls
