@@ -6,7 +6,6 @@ ghost use Rattle.std.specs.declared.option.Option.the-variants.{Some, None};
 ghost use Rattle.layout.specs.Gates.{seatsOf, cellsOf};
 ghost use Rattle.layout.specs.Boxes.{waysRefusal, issueOf, issued};
 ghost use Rattle.layout.specs.Refusals.{refusalOf};
-
 use crate::fault::BoxFault;
 use crate::ids::Passage;
 use crate::ids::SeatId;
@@ -60,7 +59,10 @@ impl BoxRecord {
         if usize::from(seat.0) >= self.seats() {
             return None;
         }
-        Some(Path { ways: self.ways, seat })
+        Some(Path {
+            ways: self.ways,
+            seat,
+        })
     }
 
     // Gives out the next number, if one is left.

@@ -1,7 +1,6 @@
 ghost use mathlib.Core.Path.{_≡_};
 ghost use Rattle.layout.specs.Refusals.{refusalOf};
 ghost use Rattle.layout.specs.declared.fault.BoxFault.the-variants.{Store};
-
 use crate::ids::SeatId;
 use crate::ids::SeatIdDebug;
 use crate::ids::SeatIdPartialEq;
@@ -60,7 +59,12 @@ impl BoxFault {
             BoxFault::WrongState(seat) => plain(7, seat),
             BoxFault::Spent(seat) => plain(8, seat),
             BoxFault::BadCoin(seat) => plain(9, seat),
-            BoxFault::Unfit { seat, height, cell } => Refusal { number: 10, seat, height, cell },
+            BoxFault::Unfit { seat, height, cell } => Refusal {
+                number: 10,
+                seat,
+                height,
+                cell,
+            },
             BoxFault::Store(fault) => plain(fault.number(), SeatId(0)),
         }
     }
@@ -70,7 +74,12 @@ impl BoxFault {
 fn plain(number: u8, seat: SeatId) -> Refusal
     ensures { λ r. ⌜ r ≡ record { number = number; seat = seat; height = 0; cell = 0 } ⌝ }
 {
-    Refusal { number, seat, height: 0, cell: 0 }
+    Refusal {
+        number,
+        seat,
+        height: 0,
+        cell: 0,
+    }
 }
 
 pub impl From<StoreFault> for BoxFault as BoxFromStore {

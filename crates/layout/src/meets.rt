@@ -3,7 +3,6 @@ ghost use Prim.Native.Nat.{_≤_};
 ghost use Rattle.std.specs.Options.{Cases as BySome};
 ghost use Rattle.layout.specs.Gates.{cellOf, cellsOf};
 ghost use Rattle.layout.specs.Meetings.{meetingOf, Inside};
-
 use crate::ids::SeatId;
 use crate::ids::WayId;
 use crate::path::Meeting;
@@ -63,6 +62,12 @@ impl Path {
             3 => gate * 10,
             _ => gate * 12,
         };
-        Meeting { seat: self.seat, height, base, ways, way: WayId(way) }
+        Meeting {
+            seat: self.seat,
+            height,
+            base,
+            ways,
+            way: WayId(way),
+        }
     }
 }

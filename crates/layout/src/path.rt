@@ -1,6 +1,5 @@
 ghost use Prim.Native.Nat.{_≤_, _<_};
 ghost use Rattle.layout.specs.Gates.{seatsOf};
-
 use crate::ids::SeatId;
 use crate::ids::WayId;
 

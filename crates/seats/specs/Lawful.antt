@@ -20,29 +20,29 @@ blankMarks s = not (s .«gave_up») && (not (s .handed) && eqb (s .scan .0) 0)
 abbrev pub blankNotes : Seat → Bool
 blankNotes s =
     eqb (getD (s .noted) 0 0) 0
-        && (eqb (getD (s .noted) 1 0) 0
-        && (eqb (getD (s .noted) 2 0) 0
-        && (eqb (getD (s .noted) 3 0) 0 && (eqb (s .«kept_way» .0) 0 && eqb (s .«kept_number» .0) 0))))
+    && (eqb (getD (s .noted) 1 0) 0
+    && (eqb (getD (s .noted) 2 0) 0
+    && (eqb (getD (s .noted) 3 0) 0 && (eqb (s .«kept_way» .0) 0 && eqb (s .«kept_number» .0) 0))))
 
 abbrev pub blank : Seat → Bool
 blank s =
     eqb (placeNumber (s .place)) 0
-        && (eqb (s .height) 0
-        && (eqb (s .top) 0 && (eqb (s .aim) 0 && (eqb (s .passage .0) 0 && (blankMarks s && blankNotes s)))))
+    && (eqb (s .height) 0
+    && (eqb (s .top) 0 && (eqb (s .aim) 0 && (eqb (s .passage .0) 0 && (blankMarks s && blankNotes s)))))
 
 abbrev pub rangedNotes : ℕ → Seat → Bool
 rangedNotes w s =
     leb (getD (s .noted) 0 0) 16383
-        && (leb (getD (s .noted) 1 0) 16383
-        && (leb (getD (s .noted) 2 0) 16383
-        && (leb (getD (s .noted) 3 0) 16383 && (ltb (s .«kept_way» .0) w && leb (s .«kept_number» .0) 16383))))
+    && (leb (getD (s .noted) 1 0) 16383
+    && (leb (getD (s .noted) 2 0) 16383
+    && (leb (getD (s .noted) 3 0) 16383 && (ltb (s .«kept_way» .0) w && leb (s .«kept_number» .0) 16383))))
 
 abbrev pub ranged : ℕ → Seat → Bool
 ranged w s =
     within 1 16383 (s .passage .0)
-        && (within 1 (heightsOf w) (s .height)
-        && (leb (s .top) (heightsOf w)
-        && (leb (s .aim) (heightsOf w) && (ltb (s .scan .0) w && rangedNotes w s))))
+    && (within 1 (heightsOf w) (s .height)
+    && (leb (s .top) (heightsOf w)
+    && (leb (s .aim) (heightsOf w) && (ltb (s .scan .0) w && rangedNotes w s))))
 
 -- by state: a climbing seat stands one above what it has won, a holder has all, a leaving seat is on its way up again
 abbrev pub placeFitsIn : State → ℕ → ℕ → ℕ → ℕ → Bool
@@ -61,8 +61,8 @@ climbs s = eqb (stateNumber (s .state)) 1
 abbrev pub markFitsAt : ℕ → Seat → Bool
 markFitsAt n s =
     cond (within 2 14 n) (not (s .«gave_up»))
-        (cond (eqb n 16) (leb (s .height) (s .aim))
-            (cond (within 19 32 n || (within 52 70 n && climbs s)) (s .«gave_up») true))
+    (cond (eqb n 16) (leb (s .height) (s .aim))
+    (cond (within 19 32 n || (within 52 70 n && climbs s)) (s .«gave_up») true))
 
 abbrev pub markFits : Seat → Bool
 markFits s = markFitsAt (placeNumber (s .place)) s

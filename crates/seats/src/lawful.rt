@@ -1,6 +1,5 @@
 ghost use mathlib.Core.Path.{_≡_};
 ghost use Rattle.seats.specs.Lawful.{blankMarks, blankNotes, blank, rangedNotes, ranged, markFits, placeFits, lawfulOpen, lawful};
-
 use crate::place::Place;
 use crate::seat::Seat;
 use crate::state::State;
@@ -86,8 +85,11 @@ fn fits_place(seat: &Seat, ways: u8) -> bool
     let place = seat.place.number();
     match seat.state {
         State::Away => false,
-        State::Climbing => u16::from(seat.height) == u16::from(seat.top) + 1 && matches!(place, 2..=32 | 52..=70),
-        State::Holding => seat.height == ways.saturating_sub(1) && seat.height == seat.top && place == 0,
+        State::Climbing => u16::from(seat.height) == u16::from(seat.top) + 1
+            && matches!(place, 2..=32 | 52..=70),
+        State::Holding => seat.height == ways.saturating_sub(1)
+            && seat.height == seat.top
+            && place == 0,
         State::Leaving => seat.height <= seat.top && matches!(place, 35..=70),
     }
 }

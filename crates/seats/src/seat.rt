@@ -1,6 +1,5 @@
 ghost use mathlib.Core.Path.{_≡_};
 ghost use Rattle.seats.specs.Seats.{away, backsOut, keepsHeight};
-
 use crate::place::Place;
 use crate::place::PlacePartialEq;
 use crate::state::State;
@@ -63,7 +62,12 @@ impl Seat {
         if self.top == 0 {
             return Seat::away();
         }
-        Seat { state: State::Leaving, place: Place::ReadRole, height: 1, ..self }
+        Seat {
+            state: State::Leaving,
+            place: Place::ReadRole,
+            height: 1,
+            ..self
+        }
     }
 
     // Whether it keeps the gate that it meets at a height.

@@ -23,7 +23,7 @@ use Rattle.steps.specs.Outcomes.{Outcome, did, unfitAt, word, holds, put, swap
 abbrev pub closeApply : Meeting → Seat → List ℕ → Outcome (Unit {0})
 closeApply m s ws =
     did (swapped ws m (Apply (m .way)) (reg (s .passage .0)) (pro (s .passage .0)))
-        (goesTo s (cond (holds ws m (Role (m .way)) 2) AbortQueen AbortPawn))
+    (goesTo s (cond (holds ws m (Role (m .way)) 2) AbortQueen AbortPawn))
 
 abbrev pub abortedBy : Option ℕ → Meeting → Seat → List ℕ → Outcome (Unit {0})
 abortedBy (Some x) m s ws = did (put ws m Pawns x) (goesTo s WithdrawApply)
@@ -39,7 +39,7 @@ abortQueen m s ws =
 abbrev pub acceptGate : Meeting → Seat → List ℕ → Outcome (Unit {0})
 acceptGate m s ws =
     cond (within (s .height) (heightsOf (m .ways)) (word ws m SyncOne)) (did ws (captured m (aims s (word ws m SyncOne))))
-        (unfitAt m SyncOne ws s)
+    (unfitAt m SyncOne ws s)
 
 abbrev pub withdrawApply : Meeting → Seat → List ℕ → Outcome (Unit {0})
 withdrawApply m s ws = did (swapped ws m (Apply (m .way)) (pro (s .passage .0)) 0) (backsOut s)

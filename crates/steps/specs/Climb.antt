@@ -23,14 +23,14 @@ use Rattle.steps.specs.Outcomes.{Outcome, did, unfitAt, word, holds, put, swap
 abbrev pub claimApply : Meeting → Seat → List ℕ → Outcome (Unit {0})
 claimApply m s ws =
     cond (holds ws m (Apply (m .way)) 0)
-        (did (put (put ws m (Apply (m .way)) (reg (s .passage .0))) m (Role (m .way)) 0) (goesTo s RaceForRole))
-        (did ws s)
+    (did (put (put ws m (Apply (m .way)) (reg (s .passage .0))) m (Role (m .way)) 0) (goesTo s RaceForRole))
+    (did ws s)
 
 abbrev pub raceForRole : Coin → Meeting → Seat → List ℕ → Outcome (Unit {0})
 raceForRole TryKing m s ws =
     cond (holds ws m Count 0)
-        (did (put (put ws m Count 1) m (Role (m .way)) 1) (goesTo (aims s (s .height)) MarkApply))
-        (did ws s)
+    (did (put (put ws m Count 1) m (Role (m .way)) 1) (goesTo (aims s (s .height)) MarkApply))
+    (did ws s)
 raceForRole TryQueen m s ws =
     cond (holds ws m Count 1) (did (put (put ws m Count 2) m (Role (m .way)) 2) (goesTo s AwaitKing)) (did ws s)
 raceForRole TryPawn m s ws =
@@ -39,8 +39,8 @@ raceForRole TryPawn m s ws =
 abbrev pub awaitPromotion : Meeting → Seat → List ℕ → Outcome (Unit {0})
 awaitPromotion m s ws =
     cond (holds ws m (Apply (m .way)) (pro (s .passage .0)))
-        (did (put ws m (Role (m .way)) 4) (goesTo (aims s (s .height)) MarkApply))
-        (did ws (goesTo s RecheckCount))
+    (did (put ws m (Role (m .way)) 4) (goesTo (aims s (s .height)) MarkApply))
+    (did ws (goesTo s RecheckCount))
 
 abbrev pub recheckCount : Meeting → Seat → List ℕ → Outcome (Unit {0})
 recheckCount m s ws = did ws (goesTo s (cond (holds ws m Count 2) AwaitPromotion RaceForRole))
@@ -48,9 +48,9 @@ recheckCount m s ws = did ws (goesTo s (cond (holds ws m Count 2) AwaitPromotion
 abbrev pub awaitKing : Meeting → Seat → List ℕ → Outcome (Unit {0})
 awaitKing m s ws =
     cond (holds ws m SyncOne 0) (did ws s)
-        (cond (within (s .height) (heightsOf (m .ways)) (word ws m SyncOne))
-            (did ws (goesTo (aims s (word ws m SyncOne)) MarkApply))
-            (unfitAt m SyncOne ws s))
+    (cond (within (s .height) (heightsOf (m .ways)) (word ws m SyncOne))
+    (did ws (goesTo (aims s (word ws m SyncOne)) MarkApply))
+    (unfitAt m SyncOne ws s))
 
 abbrev pub markApply : Meeting → Seat → List ℕ → Outcome (Unit {0})
 markApply m s ws =

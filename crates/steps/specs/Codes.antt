@@ -46,8 +46,8 @@ roleNumber PromotedPawn = 4
 abbrev pub roleOf : ℕ → Option Role
 roleOf x =
     cond (eqb x 0) (Some Nobody)
-        (cond (eqb x 1) (Some King)
-            (cond (eqb x 2) (Some Queen) (cond (eqb x 3) (Some Pawn) (cond (eqb x 4) (Some PromotedPawn) None))))
+    (cond (eqb x 1) (Some King)
+    (cond (eqb x 2) (Some Queen) (cond (eqb x 3) (Some Pawn) (cond (eqb x 4) (Some PromotedPawn) None))))
 
 abbrev pub coinNumber : Coin → ℕ
 coinNumber TryKing = 0

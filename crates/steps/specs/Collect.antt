@@ -23,7 +23,7 @@ abbrev pub scanApply : Meeting → Seat → List ℕ → Outcome (Unit {0})
 scanApply m s ws =
     let noted = notes s (set (s .noted) (s .scan .0) (waiting (word ws m (Apply (s .scan))))) in
     cond (eqb (s .scan .0 + 1) (m .ways)) (did ws (goesTo (scans noted 0) CollectPawns))
-        (did ws (scans noted (s .scan .0 + 1)))
+    (did ws (scans noted (s .scan .0 + 1)))
 
 abbrev pub collectPawns : Meeting → Seat → List ℕ → Outcome (Unit {0})
 collectPawns m s ws =

@@ -17,7 +17,7 @@ use Rattle.steps.specs.Outcomes.{Outcome, did, unfitAt, word, holds, put, clos
 abbrev pub raceToClose : Meeting → Seat → List ℕ → Outcome (Unit {0})
 raceToClose m s ws =
     cond (holds ws m SyncTwo 0) (did (put ws m SyncTwo (m .way .0 + 1)) (goesTo s (closes s)))
-        (did ws (goesTo s ClearSyncOne))
+    (did ws (goesTo s ClearSyncOne))
 
 abbrev pub clearSyncOne : Meeting → Seat → List ℕ → Outcome (Unit {0})
 clearSyncOne m s ws = did (put ws m SyncOne 0) (goesTo s ReadSyncTwo)
@@ -25,8 +25,8 @@ clearSyncOne m s ws = did (put ws m SyncOne 0) (goesTo s ReadSyncTwo)
 abbrev pub readSyncTwo : Meeting → Seat → List ℕ → Outcome (Unit {0})
 readSyncTwo m s ws =
     cond (within 1 (m .ways) (word ws m SyncTwo))
-        (did ws (goesTo (keepsFor s (word ws m SyncTwo - 1) (s .«kept_number» .0)) ClearSyncTwo))
-        (unfitAt m SyncTwo ws s)
+    (did ws (goesTo (keepsFor s (word ws m SyncTwo - 1) (s .«kept_number» .0)) ClearSyncTwo))
+    (unfitAt m SyncTwo ws s)
 
 abbrev pub clearSyncTwo : Meeting → Seat → List ℕ → Outcome (Unit {0})
 clearSyncTwo m s ws = did (put ws m SyncTwo 0) (goesTo s StrikeOut)

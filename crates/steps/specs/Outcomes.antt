@@ -90,5 +90,5 @@ closes s = closesIn (s .state)
 abbrev pub captured : Meeting → Seat → Seat
 captured m s =
     cond (eqb (s .aim) (heightsOf (m .ways))) (moved s Holding Rest (s .aim) (s .aim))
-        (cond (s .«gave_up») (backsOut (moved s (s .state) (s .place) (s .height) (s .aim)))
-            (moved s Climbing ClaimApply (s .aim + 1) (s .aim)))
+    (cond (s .«gave_up») (backsOut (moved s (s .state) (s .place) (s .height) (s .aim)))
+    (moved s Climbing ClaimApply (s .aim + 1) (s .aim)))

@@ -56,7 +56,7 @@ waits w ways i = ltb i ways && eqb (lane w i % 4) 1
 abbrev pub firstWaiting : ℕ → ℕ → Option ℕ
 firstWaiting w ways =
     cond (waits w ways 0) (Some 0)
-        (cond (waits w ways 1) (Some 1) (cond (waits w ways 2) (Some 2) (cond (waits w ways 3) (Some 3) None)))
+    (cond (waits w ways 1) (Some 1) (cond (waits w ways 2) (Some 2) (cond (waits w ways 3) (Some 3) None)))
 
 abbrev pub promoteLane : ℕ → Option ℕ → ℕ
 promoteLane w None = w

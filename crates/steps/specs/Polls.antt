@@ -82,10 +82,10 @@ coinOf k = cond (eqb k 0) TryKing (cond (eqb k 1) TryQueen TryPawn)
 abbrev pub pollRefusal : (w p n k : ℕ) → Seat → ℕ → Option Refusal
 pollRefusal w p n k s size =
     ask (leb (cellsOf w) size) (refusal 2 p)
-        (ask (lawful w s) (refusal 5 p)
-            (ask (takesPart n s) (refusal 6 p)
-                (ask (eqb (stateNumber (s .state)) 1 || eqb (stateNumber (s .state)) 3) (refusal 7 p)
-                    (ask (leb k 2) (refusal 9 p) None))))
+    (ask (lawful w s) (refusal 5 p)
+    (ask (takesPart n s) (refusal 6 p)
+    (ask (eqb (stateNumber (s .state)) 1 || eqb (stateNumber (s .state)) 3) (refusal 7 p)
+    (ask (leb k 2) (refusal 9 p) None))))
 
 -- every question was answered by yes: what the steps may rely on
 pub record Asked (w p n k : ℕ) (s : Seat) (size : ℕ) (c : Coin) : Type 0 where

@@ -19,8 +19,8 @@ use Rattle.steps.specs.Outcomes.{Outcome, did, unfitAt, word, holds, put, swap
 abbrev pub readRole : Meeting → Seat → List ℕ → Outcome (Unit {0})
 readRole m s ws =
     cond (holds ws m (Role (m .way)) 1) (did ws (goesTo s OpenAlone))
-        (cond (holds ws m (Role (m .way)) 2) (did ws (goesTo s RaceToClose))
-            (cond (holds ws m (Role (m .way)) 4) (did ws (goesTo s StrikeSelf)) (unfitAt m (Role (m .way)) ws s)))
+    (cond (holds ws m (Role (m .way)) 2) (did ws (goesTo s RaceToClose))
+    (cond (holds ws m (Role (m .way)) 4) (did ws (goesTo s StrikeSelf)) (unfitAt m (Role (m .way)) ws s)))
 
 abbrev pub openAlone : Meeting → Seat → List ℕ → Outcome (Unit {0})
 openAlone m s ws =
@@ -29,7 +29,7 @@ openAlone m s ws =
 abbrev pub handOver : Meeting → Seat → List ℕ → Outcome (Unit {0})
 handOver m s ws =
     cond (holds ws m SyncOne 0) (did (put ws m SyncOne (s .top)) (goesTo (scans (handsOver s) 0) ScanApply))
-        (did ws (goesTo s RaceToClose))
+    (did ws (goesTo s RaceToClose))
 
 abbrev pub readApply : Meeting → Seat → List ℕ → Outcome (Unit {0})
 readApply m s ws =
@@ -38,4 +38,4 @@ readApply m s ws =
 abbrev pub clearApply : Meeting → Seat → List ℕ → Outcome (Unit {0})
 clearApply m s ws =
     did (swapped ws m (Apply (m .way)) (pro (s .«kept_number» .0)) 0)
-        (cond (s .handed || eqb (s .height) (s .top)) away (moved s (s .state) ReadRole (s .height + 1) (s .top)))
+    (cond (s .handed || eqb (s .height) (s .top)) away (moved s (s .state) ReadRole (s .height + 1) (s .top)))

@@ -4,7 +4,6 @@ ghost use Rattle.layout.specs.Gates.{heightsOf};
 ghost use Rattle.layout.specs.Refusals.{told};
 ghost use Rattle.steps.specs.Abort.{closeApply, abortPawn, abortQueen, acceptGate, withdrawApply};
 ghost use Rattle.steps.specs.Outcomes.{Does, Room};
-
 use crate::cells::Cell;
 use crate::cells::read;
 use crate::cells::swap;
@@ -28,12 +27,22 @@ use store::Store;
 const QUEEN_GONE: u64 = 15;
 
 // Place 19: no longer waits for a promotion.
-pub(crate) fn close_apply<S: Store>(store: &mut S, seat: &mut Seat, at: Meeting) -> Result<(), BoxFault>
+pub(crate) fn close_apply<S: Store>(
+    store: &mut S,
+    seat: &mut Seat,
+    at: Meeting,
+) -> Result<(), BoxFault>
     requires room { ⌜ Room at (length (words (now store))) ⌝ }
     ensures { λ r. ⌜ Does (closeApply at (now (seat .entry)) (words (now (store .entry)))) (told r) (words (now (store .exit))) (now (seat .exit)) ⌝ }
 {
     let own = seat.passage;
-    swap(store, at, Cell::Apply(at.way), pair(own, Mark::Reg), pair(own, Mark::Pro))?;
+    swap(
+        store,
+        at,
+        Cell::Apply(at.way),
+        pair(own, Mark::Reg),
+        pair(own, Mark::Pro),
+    )?;
     if read(store, at, Cell::Role(at.way))? == Role::Queen.word() {
         seat.place = Place::AbortQueen;
     } else {
@@ -43,7 +52,11 @@ pub(crate) fn close_apply<S: Store>(store: &mut S, seat: &mut Seat, at: Meeting)
 }
 
 // Place 21: leaves the pawns; one that is promoted already wins the gate.
-pub(crate) fn abort_pawn<S: Store>(store: &mut S, seat: &mut Seat, at: Meeting) -> Result<(), BoxFault>
+pub(crate) fn abort_pawn<S: Store>(
+    store: &mut S,
+    seat: &mut Seat,
+    at: Meeting,
+) -> Result<(), BoxFault>
     requires room { ⌜ Room at (length (words (now store))) ⌝ }
     requires passage { ⌜ now seat .passage .0 ≤ 16383 ⌝ }
     requires height { ⌜ now seat .height ≤ heightsOf (at .ways) ⌝ }
@@ -57,14 +70,24 @@ pub(crate) fn abort_pawn<S: Store>(store: &mut S, seat: &mut Seat, at: Meeting) 
         }
         None => {
             write(store, at, Cell::Role(at.way), Role::PromotedPawn.word())?;
-            *seat = capture(Seat { aim: seat.height, ..*seat }, at);
+            *seat = capture(
+                Seat {
+                    aim: seat.height,
+                    ..*seat
+                },
+                at,
+            );
         }
     }
     Ok(())
 }
 
 // Place 26: the queen tells that she has gone, unless the king has handed over already.
-pub(crate) fn abort_queen<S: Store>(store: &mut S, seat: &mut Seat, at: Meeting) -> Result<(), BoxFault>
+pub(crate) fn abort_queen<S: Store>(
+    store: &mut S,
+    seat: &mut Seat,
+    at: Meeting,
+) -> Result<(), BoxFault>
     requires room { ⌜ Room at (length (words (now store))) ⌝ }
     ensures { λ r. ⌜ Does (abortQueen at (now (seat .entry)) (words (now (store .entry)))) (told r) (words (now (store .exit))) (now (seat .exit)) ⌝ }
 {
@@ -78,7 +101,11 @@ pub(crate) fn abort_queen<S: Store>(store: &mut S, seat: &mut Seat, at: Meeting)
 }
 
 // Place 27: the queen wins what the king has handed over.
-pub(crate) fn accept_gate<S: Store>(store: &mut S, seat: &mut Seat, at: Meeting) -> Result<(), BoxFault>
+pub(crate) fn accept_gate<S: Store>(
+    store: &mut S,
+    seat: &mut Seat,
+    at: Meeting,
+) -> Result<(), BoxFault>
     requires room { ⌜ Room at (length (words (now store))) ⌝ }
     ensures { λ r. ⌜ Does (acceptGate at (now (seat .entry)) (words (now (store .entry)))) (told r) (words (now (store .exit))) (now (seat .exit)) ⌝ }
 {
@@ -86,16 +113,32 @@ pub(crate) fn accept_gate<S: Store>(store: &mut S, seat: &mut Seat, at: Meeting)
     let Some(height) = handed_height(word, seat.height, at) else {
         return Err(unfit(at, Cell::SyncOne));
     };
-    *seat = capture(Seat { aim: height, ..*seat }, at);
+    *seat = capture(
+        Seat {
+            aim: height,
+            ..*seat
+        },
+        at,
+    );
     Ok(())
 }
 
 // Place 32: leaves its way, and backs out.
-pub(crate) fn withdraw_apply<S: Store>(store: &mut S, seat: &mut Seat, at: Meeting) -> Result<(), BoxFault>
+pub(crate) fn withdraw_apply<S: Store>(
+    store: &mut S,
+    seat: &mut Seat,
+    at: Meeting,
+) -> Result<(), BoxFault>
     requires room { ⌜ Room at (length (words (now store))) ⌝ }
     ensures { λ r. ⌜ Does (withdrawApply at (now (seat .entry)) (words (now (store .entry)))) (told r) (words (now (store .exit))) (now (seat .exit)) ⌝ }
 {
-    swap(store, at, Cell::Apply(at.way), pair(seat.passage, Mark::Pro), 0)?;
+    swap(
+        store,
+        at,
+        Cell::Apply(at.way),
+        pair(seat.passage, Mark::Pro),
+        0,
+    )?;
     *seat = seat.backs_out();
     Ok(())
 }

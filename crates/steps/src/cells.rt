@@ -5,7 +5,6 @@ ghost use Rattle.std.specs.declared.result.Result.the-variants.{Ok};
 ghost use Rattle.store.specs.Words.{held};
 ghost use Rattle.steps.specs.Codes.{cellAt};
 ghost use Rattle.steps.specs.Outcomes.{word, holds, put, swapped};
-
 use layout::BoxFault;
 use layout::BoxFromStore;
 use layout::Meeting;
@@ -54,7 +53,12 @@ pub(crate) fn read<S: Store>(store: &mut S, at: Meeting, cell: Cell) -> Result<u
 }
 
 // Puts a word into a cell.
-pub(crate) fn write<S: Store>(store: &mut S, at: Meeting, cell: Cell, word: u64) -> Result<(), BoxFault>
+pub(crate) fn write<S: Store>(
+    store: &mut S,
+    at: Meeting,
+    cell: Cell,
+    word: u64,
+) -> Result<(), BoxFault>
     requires { ⌜ cellAt at cell < length (words (now store)) ⌝ }
     ensures answer { λ r. ⌜ r ≡ Ok tt ⌝ }
     ensures after { λ _. ⌜ words (now (store .exit)) ≡ put (words (now (store .entry))) at cell word ⌝ }
@@ -63,7 +67,13 @@ pub(crate) fn write<S: Store>(store: &mut S, at: Meeting, cell: Cell, word: u64)
 }
 
 // Puts `new` into a cell that holds `old`, and says whether it did.
-pub(crate) fn swap<S: Store>(store: &mut S, at: Meeting, cell: Cell, old: u64, new: u64) -> Result<bool, BoxFault>
+pub(crate) fn swap<S: Store>(
+    store: &mut S,
+    at: Meeting,
+    cell: Cell,
+    old: u64,
+    new: u64,
+) -> Result<bool, BoxFault>
     requires { ⌜ cellAt at cell < length (words (now store)) ⌝ }
     ensures answer { λ r. ⌜ r ≡ Ok (holds (words (now (store .entry))) at cell old) ⌝ }
     ensures after { λ _. ⌜ words (now (store .exit)) ≡ swapped (words (now (store .entry))) at cell old new ⌝ }

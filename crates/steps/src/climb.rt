@@ -4,7 +4,6 @@ ghost use Rattle.layout.specs.Gates.{heightsOf};
 ghost use Rattle.layout.specs.Refusals.{told};
 ghost use Rattle.steps.specs.Climb.{claimApply, raceForRole, awaitPromotion, recheckCount, awaitKing, markApply};
 ghost use Rattle.steps.specs.Outcomes.{Does, Room};
-
 use crate::cells::Cell;
 use crate::cells::read;
 use crate::cells::swap;
@@ -23,7 +22,11 @@ use seats::Seat;
 use store::Store;
 
 // Place 2: enters by its way, if nobody is there.
-pub(crate) fn claim_apply<S: Store>(store: &mut S, seat: &mut Seat, at: Meeting) -> Result<(), BoxFault>
+pub(crate) fn claim_apply<S: Store>(
+    store: &mut S,
+    seat: &mut Seat,
+    at: Meeting,
+) -> Result<(), BoxFault>
     requires room { ⌜ Room at (length (words (now store))) ⌝ }
     ensures { λ r. ⌜ Does (claimApply at (now (seat .entry)) (words (now (store .entry)))) (told r) (words (now (store .exit))) (now (seat .exit)) ⌝ }
 {
@@ -36,7 +39,12 @@ pub(crate) fn claim_apply<S: Store>(store: &mut S, seat: &mut Seat, at: Meeting)
 }
 
 // Place 5: becomes king, queen or pawn, as the coin says, if that is to be had.
-pub(crate) fn race_for_role<S: Store>(store: &mut S, seat: &mut Seat, at: Meeting, coin: Coin) -> Result<(), BoxFault>
+pub(crate) fn race_for_role<S: Store>(
+    store: &mut S,
+    seat: &mut Seat,
+    at: Meeting,
+    coin: Coin,
+) -> Result<(), BoxFault>
     requires room { ⌜ Room at (length (words (now store))) ⌝ }
     ensures { λ r. ⌜ Does (raceForRole coin at (now (seat .entry)) (words (now (store .entry)))) (told r) (words (now (store .exit))) (now (seat .exit)) ⌝ }
 {
@@ -66,7 +74,11 @@ pub(crate) fn race_for_role<S: Store>(store: &mut S, seat: &mut Seat, at: Meetin
 }
 
 // Place 7: goes on as a promoted pawn, if it has been promoted.
-pub(crate) fn await_promotion<S: Store>(store: &mut S, seat: &mut Seat, at: Meeting) -> Result<(), BoxFault>
+pub(crate) fn await_promotion<S: Store>(
+    store: &mut S,
+    seat: &mut Seat,
+    at: Meeting,
+) -> Result<(), BoxFault>
     requires room { ⌜ Room at (length (words (now store))) ⌝ }
     ensures { λ r. ⌜ Does (awaitPromotion at (now (seat .entry)) (words (now (store .entry)))) (told r) (words (now (store .exit))) (now (seat .exit)) ⌝ }
 {
@@ -81,7 +93,11 @@ pub(crate) fn await_promotion<S: Store>(store: &mut S, seat: &mut Seat, at: Meet
 }
 
 // Place 8: tries for a role again, once the gate is no longer taken by king and queen.
-pub(crate) fn recheck_count<S: Store>(store: &mut S, seat: &mut Seat, at: Meeting) -> Result<(), BoxFault>
+pub(crate) fn recheck_count<S: Store>(
+    store: &mut S,
+    seat: &mut Seat,
+    at: Meeting,
+) -> Result<(), BoxFault>
     requires room { ⌜ Room at (length (words (now store))) ⌝ }
     ensures { λ r. ⌜ Does (recheckCount at (now (seat .entry)) (words (now (store .entry)))) (told r) (words (now (store .exit))) (now (seat .exit)) ⌝ }
 {
@@ -94,7 +110,11 @@ pub(crate) fn recheck_count<S: Store>(store: &mut S, seat: &mut Seat, at: Meetin
 }
 
 // Place 14: the queen waits until the king has handed over.
-pub(crate) fn await_king<S: Store>(store: &mut S, seat: &mut Seat, at: Meeting) -> Result<(), BoxFault>
+pub(crate) fn await_king<S: Store>(
+    store: &mut S,
+    seat: &mut Seat,
+    at: Meeting,
+) -> Result<(), BoxFault>
     requires room { ⌜ Room at (length (words (now store))) ⌝ }
     ensures { λ r. ⌜ Does (awaitKing at (now (seat .entry)) (words (now (store .entry)))) (told r) (words (now (store .exit))) (now (seat .exit)) ⌝ }
 {
@@ -111,13 +131,23 @@ pub(crate) fn await_king<S: Store>(store: &mut S, seat: &mut Seat, at: Meeting) 
 }
 
 // Place 16: wins the gates up to its aim.
-pub(crate) fn mark_apply<S: Store>(store: &mut S, seat: &mut Seat, at: Meeting) -> Result<(), BoxFault>
+pub(crate) fn mark_apply<S: Store>(
+    store: &mut S,
+    seat: &mut Seat,
+    at: Meeting,
+) -> Result<(), BoxFault>
     requires room { ⌜ Room at (length (words (now store))) ⌝ }
     requires aim { ⌜ now seat .aim ≤ heightsOf (at .ways) ⌝ }
     ensures { λ r. ⌜ Does (markApply at (now (seat .entry)) (words (now (store .entry)))) (told r) (words (now (store .exit))) (now (seat .exit)) ⌝ }
 {
     let own = seat.passage;
-    swap(store, at, Cell::Apply(at.way), pair(own, Mark::Reg), pair(own, Mark::Pro))?;
+    swap(
+        store,
+        at,
+        Cell::Apply(at.way),
+        pair(own, Mark::Reg),
+        pair(own, Mark::Pro),
+    )?;
     *seat = capture(*seat, at);
     Ok(())
 }

@@ -4,7 +4,6 @@ ghost use lib.Dec.{leb};
 ghost use Rattle.std.specs.declared.option.Option.the-variants.{Some, None};
 ghost use Rattle.steps.specs.Codes.{markNumber, pair, roleNumber, roleOf};
 ghost use Rattle.steps.specs.Polls.{coinOf};
-
 use layout::Passage;
 
 // The state in a pair of passage number and state.

@@ -5,7 +5,6 @@ ghost use Rattle.layout.specs.Refusals.{told};
 ghost use Rattle.steps.specs.Collect.{waiting, scanApply, collectPawns};
 ghost use Rattle.steps.specs.Pawns.{Notable};
 ghost use Rattle.steps.specs.Outcomes.{Does, Room};
-
 use crate::cells::Cell;
 use crate::cells::read;
 use crate::pawns::PawnSet;
@@ -18,7 +17,11 @@ use seats::Seat;
 use store::Store;
 
 // Place 52: notes who waits at the next way.
-pub(crate) fn scan_apply<S: Store>(store: &mut S, seat: &mut Seat, at: Meeting) -> Result<(), BoxFault>
+pub(crate) fn scan_apply<S: Store>(
+    store: &mut S,
+    seat: &mut Seat,
+    at: Meeting,
+) -> Result<(), BoxFault>
     requires room { ⌜ Room at (length (words (now store))) ⌝ }
     requires scan { ⌜ now seat .scan .0 < at .ways ⌝ }
     ensures { λ r. ⌜ Does (scanApply at (now (seat .entry)) (words (now (store .entry)))) (told r) (words (now (store .exit))) (now (seat .exit)) ⌝ }
@@ -36,7 +39,11 @@ pub(crate) fn scan_apply<S: Store>(store: &mut S, seat: &mut Seat, at: Meeting) 
 }
 
 // Place 55: registers those that it has noted.
-pub(crate) fn collect_pawns<S: Store>(store: &mut S, seat: &mut Seat, at: Meeting) -> Result<(), BoxFault>
+pub(crate) fn collect_pawns<S: Store>(
+    store: &mut S,
+    seat: &mut Seat,
+    at: Meeting,
+) -> Result<(), BoxFault>
     requires room { ⌜ Room at (length (words (now store))) ⌝ }
     requires noted { ⌜ Notable (now seat .noted) ⌝ }
     ensures { λ r. ⌜ Does (collectPawns at (now (seat .entry)) (words (now (store .entry)))) (told r) (words (now (store .exit))) (now (seat .exit)) ⌝ }

@@ -3,7 +3,6 @@ ghost use Prim.Native.Nat.{_<_};
 ghost use Rattle.layout.specs.Refusals.{told};
 ghost use Rattle.steps.specs.HelpRelease.{raceToClose, clearSyncOne, readSyncTwo, clearSyncTwo, strikeOut};
 ghost use Rattle.steps.specs.Outcomes.{Does, Room};
-
 use crate::cells::Cell;
 use crate::cells::read;
 use crate::cells::swap;
@@ -20,7 +19,11 @@ use seats::Seat;
 use store::Store;
 
 // Place 56: of king and queen, the first to come closes, and the second frees the gate.
-pub(crate) fn race_to_close<S: Store>(store: &mut S, seat: &mut Seat, at: Meeting) -> Result<(), BoxFault>
+pub(crate) fn race_to_close<S: Store>(
+    store: &mut S,
+    seat: &mut Seat,
+    at: Meeting,
+) -> Result<(), BoxFault>
     requires room { ⌜ Room at (length (words (now store))) ⌝ }
     ensures { λ r. ⌜ Does (raceToClose at (now (seat .entry)) (words (now (store .entry)))) (told r) (words (now (store .exit))) (now (seat .exit)) ⌝ }
 {
@@ -33,7 +36,11 @@ pub(crate) fn race_to_close<S: Store>(store: &mut S, seat: &mut Seat, at: Meetin
 }
 
 // Place 58: forgets the hand-over.
-pub(crate) fn clear_sync_one<S: Store>(store: &mut S, seat: &mut Seat, at: Meeting) -> Result<(), BoxFault>
+pub(crate) fn clear_sync_one<S: Store>(
+    store: &mut S,
+    seat: &mut Seat,
+    at: Meeting,
+) -> Result<(), BoxFault>
     requires room { ⌜ Room at (length (words (now store))) ⌝ }
     ensures { λ r. ⌜ Does (clearSyncOne at (now (seat .entry)) (words (now (store .entry)))) (told r) (words (now (store .exit))) (now (seat .exit)) ⌝ }
 {
@@ -43,7 +50,11 @@ pub(crate) fn clear_sync_one<S: Store>(store: &mut S, seat: &mut Seat, at: Meeti
 }
 
 // Place 59: keeps the way of the first to close.
-pub(crate) fn read_sync_two<S: Store>(store: &mut S, seat: &mut Seat, at: Meeting) -> Result<(), BoxFault>
+pub(crate) fn read_sync_two<S: Store>(
+    store: &mut S,
+    seat: &mut Seat,
+    at: Meeting,
+) -> Result<(), BoxFault>
     requires room { ⌜ Room at (length (words (now store))) ⌝ }
     ensures { λ r. ⌜ Does (readSyncTwo at (now (seat .entry)) (words (now (store .entry)))) (told r) (words (now (store .exit))) (now (seat .exit)) ⌝ }
 {
@@ -57,7 +68,11 @@ pub(crate) fn read_sync_two<S: Store>(store: &mut S, seat: &mut Seat, at: Meetin
 }
 
 // Place 60: forgets who closed first.
-pub(crate) fn clear_sync_two<S: Store>(store: &mut S, seat: &mut Seat, at: Meeting) -> Result<(), BoxFault>
+pub(crate) fn clear_sync_two<S: Store>(
+    store: &mut S,
+    seat: &mut Seat,
+    at: Meeting,
+) -> Result<(), BoxFault>
     requires room { ⌜ Room at (length (words (now store))) ⌝ }
     ensures { λ r. ⌜ Does (clearSyncTwo at (now (seat .entry)) (words (now (store .entry)))) (told r) (words (now (store .exit))) (now (seat .exit)) ⌝ }
 {
@@ -67,7 +82,11 @@ pub(crate) fn clear_sync_two<S: Store>(store: &mut S, seat: &mut Seat, at: Meeti
 }
 
 // Place 61: strikes out the first to close, whom a collect may have registered.
-pub(crate) fn strike_out<S: Store>(store: &mut S, seat: &mut Seat, at: Meeting) -> Result<(), BoxFault>
+pub(crate) fn strike_out<S: Store>(
+    store: &mut S,
+    seat: &mut Seat,
+    at: Meeting,
+) -> Result<(), BoxFault>
     requires room { ⌜ Room at (length (words (now store))) ⌝ }
     requires kept { ⌜ now seat .«kept_way» .0 < 4 ⌝ }
     ensures { λ r. ⌜ Does (strikeOut at (now (seat .entry)) (words (now (store .entry)))) (told r) (words (now (store .exit))) (now (seat .exit)) ⌝ }

@@ -6,7 +6,6 @@ ghost use Rattle.steps.specs.declared.cells.Cell.the-variants.{Pawns};
 ghost use Rattle.steps.specs.Outcomes.{Room, word, put};
 ghost use Rattle.std.specs.Options.{Cases as BySome, mapped};
 ghost use Rattle.steps.specs.Pawns.{lanes, packed, lane, firstWaiting, promoteWord, promoteOf, abortOf, removeWord, collectLane, collectWord, Notable};
-
 use crate::cells::Cell;
 use crate::cells::write;
 use layout::BoxFault;
@@ -81,7 +80,12 @@ impl PawnSet {
 }
 
 // Writes the pawn word back, if it has changed.
-pub(crate) fn write_pawns<S: Store>(store: &mut S, at: Meeting, before: PawnSet, after: PawnSet) -> Result<(), BoxFault>
+pub(crate) fn write_pawns<S: Store>(
+    store: &mut S,
+    at: Meeting,
+    before: PawnSet,
+    after: PawnSet,
+) -> Result<(), BoxFault>
     requires room { ⌜ Room at (length (words (now store))) ⌝ }
     requires found { ⌜ word (words (now store)) at Pawns ≡ before .0 ⌝ }
     ensures answer { λ r. ⌜ r ≡ Ok tt ⌝ }
@@ -120,7 +124,11 @@ fn collected(pair: u16, noted: u16) -> u16
     requires { ⌜ noted ≤ 16383 ⌝ }
     ensures { λ r. ⌜ r ≡ collectLane pair noted ⌝ }
 {
-    if noted == 0 || pair % 4 == 3 { pair } else { noted * 4 + 1 }
+    if noted == 0 || pair % 4 == 3 {
+        pair
+    } else {
+        noted * 4 + 1
+    }
 }
 
 // The lowest way below `ways` that waits.

@@ -5,7 +5,6 @@ ghost use Rattle.layout.specs.Refusals.{refusalOf, toldAs};
 ghost use Rattle.seats.specs.Places.{stateNumber};
 ghost use Rattle.steps.specs.Outcomes.{Does};
 ghost use Rattle.steps.specs.Polls.{Asked, Due, pollRefusal, polledSeat};
-
 use crate::codes::Coin;
 use crate::step::step;
 use layout::BoxFault;
@@ -17,7 +16,13 @@ use seats::State;
 use store::Store;
 
 // Polls one seat: asks the questions about it, and does the step of its place. Answers the state afterwards.
-pub fn poll_seat<S: Store>(store: &mut S, seat: &mut Seat, path: Path, passage: Passage, coin: u8) -> Result<State, BoxFault>
+pub fn poll_seat<S: Store>(
+    store: &mut S,
+    seat: &mut Seat,
+    path: Path,
+    passage: Passage,
+    coin: u8,
+) -> Result<State, BoxFault>
     ensures { λ r. ⌜ Does (polledSeat (path .ways) (path .seat .0) (passage .0) coin (now (seat .entry)) (words (now (store .entry)))) (toldAs stateNumber r) (words (now (store .exit))) (now (seat .exit)) ⌝ }
 {
     let due = due(store.size(), seat, path, passage, coin)?;
@@ -33,7 +38,13 @@ pub struct DuePoll {
 }
 
 // Asks the questions, and finds the gate.
-fn due(size: usize, seat: &Seat, path: Path, passage: Passage, coin: u8) -> Result<DuePoll, BoxFault>
+fn due(
+    size: usize,
+    seat: &Seat,
+    path: Path,
+    passage: Passage,
+    coin: u8,
+) -> Result<DuePoll, BoxFault>
     ensures { λ r. ⌜ Cases r (λ d. Due (path .ways) (path .seat .0) (passage .0) coin (now (seat .entry)) size (d .at) (d .coin)) (λ e. pollRefusal (path .ways) (path .seat .0) (passage .0) coin (now (seat .entry)) size ≡ Some (refusalOf e)) ⌝ }
 {
     let coin = ask(size, seat, path, passage, coin)?;

@@ -3,7 +3,6 @@ ghost use Prim.Native.Nat.{_<_};
 ghost use Rattle.layout.specs.Refusals.{told};
 ghost use Rattle.steps.specs.Promote.{strikeSelf, promotePawn, resetPawns, openGate, markPromoted};
 ghost use Rattle.steps.specs.Outcomes.{Does, Room};
-
 use crate::cells::Cell;
 use crate::cells::read;
 use crate::cells::swap;
@@ -20,7 +19,11 @@ use seats::Seat;
 use store::Store;
 
 // Place 64: strikes itself out of the pawns.
-pub(crate) fn strike_self<S: Store>(store: &mut S, seat: &mut Seat, at: Meeting) -> Result<(), BoxFault>
+pub(crate) fn strike_self<S: Store>(
+    store: &mut S,
+    seat: &mut Seat,
+    at: Meeting,
+) -> Result<(), BoxFault>
     requires room { ⌜ Room at (length (words (now store))) ⌝ }
     ensures { λ r. ⌜ Does (strikeSelf at (now (seat .entry)) (words (now (store .entry)))) (told r) (words (now (store .exit))) (now (seat .exit)) ⌝ }
 {
@@ -33,7 +36,11 @@ pub(crate) fn strike_self<S: Store>(store: &mut S, seat: &mut Seat, at: Meeting)
 }
 
 // Place 65: promotes the first pawn, if one waits.
-pub(crate) fn promote_pawn<S: Store>(store: &mut S, seat: &mut Seat, at: Meeting) -> Result<(), BoxFault>
+pub(crate) fn promote_pawn<S: Store>(
+    store: &mut S,
+    seat: &mut Seat,
+    at: Meeting,
+) -> Result<(), BoxFault>
     requires room { ⌜ Room at (length (words (now store))) ⌝ }
     ensures { λ r. ⌜ Does (promotePawn at (now (seat .entry)) (words (now (store .entry)))) (told r) (words (now (store .exit))) (now (seat .exit)) ⌝ }
 {
@@ -52,7 +59,11 @@ pub(crate) fn promote_pawn<S: Store>(store: &mut S, seat: &mut Seat, at: Meeting
 }
 
 // Place 67: empties the pawn word.
-pub(crate) fn reset_pawns<S: Store>(store: &mut S, seat: &mut Seat, at: Meeting) -> Result<(), BoxFault>
+pub(crate) fn reset_pawns<S: Store>(
+    store: &mut S,
+    seat: &mut Seat,
+    at: Meeting,
+) -> Result<(), BoxFault>
     requires room { ⌜ Room at (length (words (now store))) ⌝ }
     ensures { λ r. ⌜ Does (resetPawns at (now (seat .entry)) (words (now (store .entry)))) (told r) (words (now (store .exit))) (now (seat .exit)) ⌝ }
 {
@@ -62,7 +73,11 @@ pub(crate) fn reset_pawns<S: Store>(store: &mut S, seat: &mut Seat, at: Meeting)
 }
 
 // Place 68: opens the gate.
-pub(crate) fn open_gate<S: Store>(store: &mut S, seat: &mut Seat, at: Meeting) -> Result<(), BoxFault>
+pub(crate) fn open_gate<S: Store>(
+    store: &mut S,
+    seat: &mut Seat,
+    at: Meeting,
+) -> Result<(), BoxFault>
     requires room { ⌜ Room at (length (words (now store))) ⌝ }
     ensures { λ r. ⌜ Does (openGate at (now (seat .entry)) (words (now (store .entry)))) (told r) (words (now (store .exit))) (now (seat .exit)) ⌝ }
 {
@@ -72,13 +87,23 @@ pub(crate) fn open_gate<S: Store>(store: &mut S, seat: &mut Seat, at: Meeting) -
 }
 
 // Place 70: tells the promoted pawn, if that passage still waits there.
-pub(crate) fn mark_promoted<S: Store>(store: &mut S, seat: &mut Seat, at: Meeting) -> Result<(), BoxFault>
+pub(crate) fn mark_promoted<S: Store>(
+    store: &mut S,
+    seat: &mut Seat,
+    at: Meeting,
+) -> Result<(), BoxFault>
     requires room { ⌜ Room at (length (words (now store))) ⌝ }
     requires kept { ⌜ now seat .«kept_way» .0 < at .ways ⌝ }
     ensures { λ r. ⌜ Does (markPromoted at (now (seat .entry)) (words (now (store .entry)))) (told r) (words (now (store .exit))) (now (seat .exit)) ⌝ }
 {
     let number = seat.kept_number;
-    swap(store, at, Cell::Apply(seat.kept_way), pair(number, Mark::Reg), pair(number, Mark::Pro))?;
+    swap(
+        store,
+        at,
+        Cell::Apply(seat.kept_way),
+        pair(number, Mark::Reg),
+        pair(number, Mark::Pro),
+    )?;
     seat.place = closing_place(seat);
     Ok(())
 }

@@ -3,7 +3,6 @@ ghost use Prim.Native.Nat.{_≤_};
 ghost use Rattle.layout.specs.Refusals.{told};
 ghost use Rattle.steps.specs.Release.{readRole, openAlone, handOver, readApply, clearApply};
 ghost use Rattle.steps.specs.Outcomes.{Does, Room};
-
 use crate::cells::Cell;
 use crate::cells::read;
 use crate::cells::swap;
@@ -20,7 +19,11 @@ use seats::Seat;
 use store::Store;
 
 // Place 35: goes on as the role asks.
-pub(crate) fn read_role<S: Store>(store: &mut S, seat: &mut Seat, at: Meeting) -> Result<(), BoxFault>
+pub(crate) fn read_role<S: Store>(
+    store: &mut S,
+    seat: &mut Seat,
+    at: Meeting,
+) -> Result<(), BoxFault>
     requires room { ⌜ Room at (length (words (now store))) ⌝ }
     ensures { λ r. ⌜ Does (readRole at (now (seat .entry)) (words (now (store .entry)))) (told r) (words (now (store .exit))) (now (seat .exit)) ⌝ }
 {
@@ -35,7 +38,11 @@ pub(crate) fn read_role<S: Store>(store: &mut S, seat: &mut Seat, at: Meeting) -
 }
 
 // Place 36: a king with no queen opens the gate.
-pub(crate) fn open_alone<S: Store>(store: &mut S, seat: &mut Seat, at: Meeting) -> Result<(), BoxFault>
+pub(crate) fn open_alone<S: Store>(
+    store: &mut S,
+    seat: &mut Seat,
+    at: Meeting,
+) -> Result<(), BoxFault>
     requires room { ⌜ Room at (length (words (now store))) ⌝ }
     ensures { λ r. ⌜ Does (openAlone at (now (seat .entry)) (words (now (store .entry)))) (told r) (words (now (store .exit))) (now (seat .exit)) ⌝ }
 {
@@ -48,7 +55,11 @@ pub(crate) fn open_alone<S: Store>(store: &mut S, seat: &mut Seat, at: Meeting) 
 }
 
 // Place 37: the king hands his gates from this height up to the queen, unless she has gone.
-pub(crate) fn hand_over<S: Store>(store: &mut S, seat: &mut Seat, at: Meeting) -> Result<(), BoxFault>
+pub(crate) fn hand_over<S: Store>(
+    store: &mut S,
+    seat: &mut Seat,
+    at: Meeting,
+) -> Result<(), BoxFault>
     requires room { ⌜ Room at (length (words (now store))) ⌝ }
     ensures { λ r. ⌜ Does (handOver at (now (seat .entry)) (words (now (store .entry)))) (told r) (words (now (store .exit))) (now (seat .exit)) ⌝ }
 {
@@ -63,7 +74,11 @@ pub(crate) fn hand_over<S: Store>(store: &mut S, seat: &mut Seat, at: Meeting) -
 }
 
 // Place 48: keeps the number in its Apply.
-pub(crate) fn read_apply<S: Store>(store: &mut S, seat: &mut Seat, at: Meeting) -> Result<(), BoxFault>
+pub(crate) fn read_apply<S: Store>(
+    store: &mut S,
+    seat: &mut Seat,
+    at: Meeting,
+) -> Result<(), BoxFault>
     requires room { ⌜ Room at (length (words (now store))) ⌝ }
     ensures { λ r. ⌜ Does (readApply at (now (seat .entry)) (words (now (store .entry)))) (told r) (words (now (store .exit))) (now (seat .exit)) ⌝ }
 {
@@ -74,12 +89,22 @@ pub(crate) fn read_apply<S: Store>(store: &mut S, seat: &mut Seat, at: Meeting) 
 }
 
 // Place 49: leaves its way, and goes on with the next height, or away.
-pub(crate) fn clear_apply<S: Store>(store: &mut S, seat: &mut Seat, at: Meeting) -> Result<(), BoxFault>
+pub(crate) fn clear_apply<S: Store>(
+    store: &mut S,
+    seat: &mut Seat,
+    at: Meeting,
+) -> Result<(), BoxFault>
     requires room { ⌜ Room at (length (words (now store))) ⌝ }
     requires height { ⌜ now seat .height ≤ 3 ⌝ }
     ensures { λ r. ⌜ Does (clearApply at (now (seat .entry)) (words (now (store .entry)))) (told r) (words (now (store .exit))) (now (seat .exit)) ⌝ }
 {
-    swap(store, at, Cell::Apply(at.way), pair(seat.kept_number, Mark::Pro), 0)?;
+    swap(
+        store,
+        at,
+        Cell::Apply(at.way),
+        pair(seat.kept_number, Mark::Pro),
+        0,
+    )?;
     if seat.handed || seat.height == seat.top {
         *seat = Seat::away();
     } else {

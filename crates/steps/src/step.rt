@@ -2,7 +2,6 @@ ghost use lib.ListN.{length};
 ghost use Rattle.layout.specs.Refusals.{told};
 ghost use Rattle.steps.specs.Outcomes.{Does, Ready, Room};
 ghost use Rattle.steps.specs.Polls.{stepOf};
-
 use crate::abort;
 use crate::climb;
 use crate::codes::Coin;
@@ -17,7 +16,12 @@ use seats::Seat;
 use store::Store;
 
 // The step of the seat's place.
-pub(crate) fn step<S: Store>(store: &mut S, seat: &mut Seat, at: Meeting, coin: Coin) -> Result<(), BoxFault>
+pub(crate) fn step<S: Store>(
+    store: &mut S,
+    seat: &mut Seat,
+    at: Meeting,
+    coin: Coin,
+) -> Result<(), BoxFault>
     requires room { ⌜ Room at (length (words (now store))) ⌝ }
     requires ready { ⌜ Ready (at .ways) (now seat) ⌝ }
     ensures { λ r. ⌜ Does (stepOf (now (seat .entry) .place) coin at (now (seat .entry)) (words (now (store .entry)))) (told r) (words (now (store .exit))) (now (seat .exit)) ⌝ }

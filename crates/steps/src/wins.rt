@@ -7,7 +7,6 @@ ghost use Rattle.layout.specs.Refusals.{refusalOf, unfit as unfitWord};
 ghost use Rattle.seats.specs.Places.{within};
 ghost use Rattle.steps.specs.Codes.{cellAt};
 ghost use Rattle.steps.specs.Outcomes.{captured, closes};
-
 use crate::cells::Cell;
 use crate::cells::position;
 use layout::BoxFault;
@@ -23,12 +22,24 @@ pub(crate) fn capture(seat: Seat, at: Meeting) -> Seat
 {
     let top = seat.aim;
     if top == at.ways.saturating_sub(1) {
-        return Seat { state: State::Holding, place: Place::Rest, height: top, top, ..seat };
+        return Seat {
+            state: State::Holding,
+            place: Place::Rest,
+            height: top,
+            top,
+            ..seat
+        };
     }
     if seat.gave_up {
         return Seat { top, ..seat }.backs_out();
     }
-    Seat { state: State::Climbing, place: Place::ClaimApply, height: top + 1, top, ..seat }
+    Seat {
+        state: State::Climbing,
+        place: Place::ClaimApply,
+        height: top + 1,
+        top,
+        ..seat
+    }
 }
 
 // Where a seat that is done with a gate goes.
@@ -56,5 +67,9 @@ pub(crate) fn unfit(at: Meeting, cell: Cell) -> BoxFault
     requires { ⌜ cellAt at cell ≤ 252 ⌝ }
     ensures { λ r. ⌜ refusalOf r ≡ unfitWord (at .seat .0) (at .height) (cellAt at cell) ⌝ }
 {
-    BoxFault::Unfit { seat: at.seat, height: at.height, cell: position(at, cell) as u16 }
+    BoxFault::Unfit {
+        seat: at.seat,
+        height: at.height,
+        cell: position(at, cell) as u16,
+    }
 }

@@ -80,19 +80,19 @@ module _ (bs : List ℕ) (k w : ℕ) (h : k < (length bs - 5) / 8) (l : w < 2 ^ 
       let lens : length (imageWords (putWord bs (5 + 8 * k) w)) ≡ (length bs - 5) / 8 = length-image (putWord bs (5 + 8 * k) w) ∙ same-size in
       ext-getD 0 _ _ (lens ∙ sym (length-set (imageWords bs) k w ∙ long))
       (λ i b.
-        let i-in : i < (length bs - 5) / 8 = omega arith in
-        let i-put : i < (length (putWord bs (5 + 8 * k) w) - 5) / 8 = omega (arith, same-size) in
-        getD-image (putWord bs (5 + 8 * k) w) i i-put
-        ∙ ⊎-elim
-          (λ (e : i ≡ k).
-            let k-in : k < length (imageWords bs) = omega arith in
-            let a : wordAt (putWord bs (5 + 8 * k) w) (5 + 8 * k) ≡ w = wordAt-put bs (5 + 8 * k) w room l in
-            let s = getD-set-same (imageWords bs) k w 0 k-in in cc)
-          (λ (ne : i ≡ k → ⊥).
-            let s = getD-set-other (imageWords bs) k i w 0 ne in
-            let o = getD-image bs i i-in in
-            let a : wordAt (putWord bs (5 + 8 * k) w) (5 + 8 * i) ≡ wordAt bs (5 + 8 * i) =
-              ⊎-elim (λ (below : i < k). wordAt-put-below bs (5 + 8 * k) w (5 + 8 * i) room (omega arith))
-              (λ (above : k ≤ i). wordAt-put-above bs (5 + 8 * k) w (5 + 8 * i) room (omega arith)) (cases-lt i k) in
-            a ∙ sym (s ∙ o))
-          (cases-eq i k))
+      let i-in : i < (length bs - 5) / 8 = omega arith in
+      let i-put : i < (length (putWord bs (5 + 8 * k) w) - 5) / 8 = omega (arith, same-size) in
+      getD-image (putWord bs (5 + 8 * k) w) i i-put
+      ∙ ⊎-elim
+      (λ (e : i ≡ k).
+      let k-in : k < length (imageWords bs) = omega arith in
+      let a : wordAt (putWord bs (5 + 8 * k) w) (5 + 8 * k) ≡ w = wordAt-put bs (5 + 8 * k) w room l in
+      let s = getD-set-same (imageWords bs) k w 0 k-in in cc)
+      (λ (ne : i ≡ k → ⊥).
+      let s = getD-set-other (imageWords bs) k i w 0 ne in
+      let o = getD-image bs i i-in in
+      let a : wordAt (putWord bs (5 + 8 * k) w) (5 + 8 * i) ≡ wordAt bs (5 + 8 * i) =
+      ⊎-elim (λ (below : i < k). wordAt-put-below bs (5 + 8 * k) w (5 + 8 * i) room (omega arith))
+      (λ (above : k ≤ i). wordAt-put-above bs (5 + 8 * k) w (5 + 8 * i) room (omega arith)) (cases-lt i k) in
+      a ∙ sym (s ∙ o))
+      (cases-eq i k))

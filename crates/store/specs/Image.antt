@@ -17,11 +17,11 @@ use Rattle.std.specs.declared.option.Option.the-variants.{Some, None}
 abbrev pub wordAt : List ℕ → ℕ → ℕ
 wordAt bs at =
     getD bs at 0 * 72057594037927936 + getD bs (at + 1) 0 * 281474976710656 + getD bs (at + 2) 0 * 1099511627776
-        + getD bs (at + 3) 0 * 4294967296
-        + getD bs (at + 4) 0 * 16777216
-        + getD bs (at + 5) 0 * 65536
-        + getD bs (at + 6) 0 * 256
-        + getD bs (at + 7) 0
+    + getD bs (at + 3) 0 * 4294967296
+    + getD bs (at + 4) 0 * 16777216
+    + getD bs (at + 5) 0 * 65536
+    + getD bs (at + 6) 0 * 256
+    + getD bs (at + 7) 0
 
 -- the count in the header
 abbrev pub countOf : List ℕ → ℕ
@@ -35,7 +35,7 @@ imageWords bs = map (λ k. wordAt bs (5 + 8 * k)) (counting 0 ((length bs - 5) /
 abbrev pub bytesOf : ℕ → List ℕ
 bytesOf w =
     (w / 72057594037927936 % 256) ∷ (w / 281474976710656 % 256) ∷ (w / 1099511627776 % 256) ∷ (w / 4294967296 % 256) ∷
-        (w / 16777216 % 256) ∷ (w / 65536 % 256) ∷ (w / 256 % 256) ∷ (w % 256) ∷ []
+    (w / 16777216 % 256) ∷ (w / 65536 % 256) ∷ (w / 256 % 256) ∷ (w % 256) ∷ []
 
 -- the bytes with those of a word in the place of the eight from at
 unfoldable pub putWord : List ℕ → ℕ → ℕ → List ℕ
@@ -45,4 +45,4 @@ putWord bs at w = take at bs ++ (bytesOf w ++ drop (at + 8) bs)
 abbrev pub imageRefusal : List ℕ → Option ℕ
 imageRefusal bs =
     cond (ltb (length bs) 5) (Some 21)
-        (cond (not (eqb (getD bs 0 0) 1)) (Some 22) (cond (not (eqb (length bs) (5 + 8 * countOf bs))) (Some 23) None))
+    (cond (not (eqb (getD bs 0 0) 1)) (Some 22) (cond (not (eqb (length bs) (5 + 8 * countOf bs))) (Some 23) None))

@@ -8,7 +8,6 @@ ghost use Rattle.std.specs.declared.option.Option.the-variants.{Some, None};
 ghost use Rattle.store.specs.Faults.{imageNumber, numbered};
 ghost use Rattle.store.specs.Image.{imageWords, imageRefusal, putWord, wordAt};
 ghost use Rattle.store.specs.Words.{readOf};
-
 use crate::fault::ImageFault;
 use crate::fault::StoreFault;
 use crate::words::Store;

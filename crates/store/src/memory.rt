@@ -1,6 +1,5 @@
 ghost use mathlib.Core.Path.{_≡_};
 ghost use denote.Ref.{now};
-
 use crate::fault::StoreFault;
 use crate::words::Store;
 

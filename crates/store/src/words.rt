@@ -5,7 +5,6 @@ ghost use lib.ListN.{length};
 ghost use denote.Ref.{now};
 ghost use Rattle.store.specs.Faults.{numbered};
 ghost use Rattle.store.specs.Words.{readOf, writeOf, swapOf, written, swapped};
-
 use crate::fault::StoreFault;
 
 // Words of 64 bits at the positions below a fixed size. `words` is the meaning of a store: the list of its words.

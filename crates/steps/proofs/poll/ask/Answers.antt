@@ -13,8 +13,10 @@ returns c =
     let l : lawful (c .args .path .ways) (c .args .seat .now) ≡ true = search needs in
     let a : stateNumber (c .args .seat .now .state) ≡ 0 → ⊥ = λ e. grind arith in
     let k : ranged (c .args .path .ways) (c .args .seat .now) ≡ true = ranged-from-lawful (c .args .path .ways) (c .args .seat .now) l a in
-    record { accepted = search needs
-           ; coin = search needs
-           ; cells = search needs
-           ; low = low-from-ranged (c .args .path .ways) (c .args .seat .now) k
-           ; ready = ready-from-ranged (c .args .path .ways) (c .args .seat .now) k }
+    record {
+      accepted = search needs;
+      coin = search needs;
+      cells = search needs;
+      low = low-from-ranged (c .args .path .ways) (c .args .seat .now) k;
+      ready = ready-from-ranged (c .args .path .ways) (c .args .seat .now) k;
+    }
