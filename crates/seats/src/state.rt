@@ -1,5 +1,6 @@
 ghost use mathlib.Core.Path.{_≡_};
 ghost use Rattle.seats.specs.Places.{stateNumber};
+use std::fmt;
 
 // What a seat is doing.
 #[derive(Clone, Copy, PartialEq, Eq, Debug)]
@@ -20,5 +21,18 @@ impl State {
         ensures { λ r. ⌜ r ≡ stateNumber self ⌝ }
     {
         self as u8
+    }
+}
+
+pub impl fmt::Display for State as StateDisplay {
+    fn fmt<W: fmt::Write>(&self, f: &mut fmt::Formatter<W>) -> fmt::Result {
+        f.pad(
+            match self {
+                State::Away => "away",
+                State::Climbing => "climbing",
+                State::Holding => "holding",
+                State::Leaving => "leaving",
+            },
+        )
     }
 }
