@@ -9,12 +9,14 @@ use Rattle.std.specs.Iters.{counting}
 use Rattle.std.specs.declared.option.Option.the-variants.{Some, None}
 use Rattle.std.specs.declared.result.Result.the-variants.{Ok}
 use Rattle.layout.specs.Gates.{gateOf, wayOf, cellOf, applyCell, seatsOf, gatesOf, cellsOf}
+use Rattle.seats.specs.declared.place.Place.the-variants.{ClaimApply}
+use Rattle.seats.specs.declared.seat.Seat.{Seat}
 use Rattle.seats.specs.Places.{stateNumber}
 use Rattle.seats.specs.Seats.{away}
 use Rattle.steps.specs.Codes.{reg}
 use Rattle.steps.specs.Pawns.{withLane, collectWord, abortOf, promoteWord, promoteOf}
 use Rattle.lock.specs.States.{BoxState, CallOutcome, seatAt}
-use Rattle.lock.specs.Calls.{cleared, climber, applied, polled, givenUp, gaveUp}
+use Rattle.lock.specs.Calls.{cleared, applied, polled, givenUp, gaveUp}
 
 -- a box that has just been opened, and that box after the application of seat p
 abbrev pub fresh : ℕ → BoxState
@@ -46,10 +48,11 @@ pub record Known : Type 0 where
   pub promoted : promoteOf 1376271 4 ≡ Some (record { 0 = 1 }, record { 0 = 5 })
   pub promotes : promoteWord 1376271 4 ≡ 1441807
   pub nobody : promoteOf 1441807 4 ≡ None
+  pub nobody-word : promoteWord 1441807 4 ≡ 1441807
   pub abort-late : abortOf 1441807 1 5 ≡ None
   pub aborts : abortOf 1441807 0 7 ≡ Some 1441823
   pub collects : collectWord 15 4 (9 ∷ 0 ∷ 4 ∷ 0 ∷ []) ≡ 73014444047
-  pub gives-up : (n : ℕ) → givenUp (climber n) ≡ away
+  pub gives-up : (s : Seat) → s .place ≡ ClaimApply → s .top ≡ 0 → givenUp s ≡ away
   pub gives-up-call : gaveUp (alone 4 5) 5 1 .answer ≡ Ok 0
   pub gives-up-seat : seatAt (gaveUp (alone 4 5) 5 1 .after) 5 ≡ away
   pub fifth : allAfter 5 ≡ replicate 9 1

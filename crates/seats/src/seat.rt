@@ -23,7 +23,7 @@ pub struct Seat {
     pub passage: Passage,
     // it has given up
     pub gave_up: bool,
-    // it has handed its gates above this height to the queen
+    // it has handed the queen its gates from this height up
     pub handed: bool,
     // the way whose Apply it reads next
     pub scan: WayId,

@@ -39,7 +39,7 @@ low-from-ranged w s l = grind (arith, tells)
 
 -- a step that was due does what the poll does
 pub does-poll : (w p n k : ℕ) (s : Seat) (ws : List ℕ) (size : ℕ) (m : Meeting) (c : Coin) (r : Result (Unit {0}) Refusal) (vs : List ℕ) (t : Seat) → size ≡ length ws → Due w p n k s size m c → Does (stepOf (s .place) c m s ws) r vs t → Does (polledSeat w p n k s ws) (stateAnswered r t) vs t
-unfolding stepped
+unfolding stepped polledSeat
 does-poll w p n k s ws size m c r vs t e u d =
     let o : Outcome (Unit {0}) = stepOf (s .place) c m s ws in
     let q : polledSeat w p n k s ws ≡ stateTold o =
@@ -71,4 +71,5 @@ module _ (w p k : ℕ) (s : Seat) (ws : List ℕ) (f : Refusal) where
 
 -- a refused poll leaves the cells and the seat as it found them
 pub poll-refused : (w p n k : ℕ) (s : Seat) (ws : List ℕ) (f : Refusal) → polledSeat w p n k s ws .answer ≡ Err f → (polledSeat w p n k s ws .cells ≡ ws) × (polledSeat w p n k s ws .seat ≡ s)
+unfolding polledSeat
 poll-refused w p n k s ws f e = after-refused w p k s ws f (pollRefusal w p n k s (length ws)) e

@@ -3,7 +3,6 @@
 --     pair n x         the word of passage n in state x; reg n and pro n are two such words
 --     roleNumber r     the word in Role: none 0, king 1, queen 2, pawn 3, promoted pawn 4
 --     roleOf x         the role that a word means, if it means one
---     coinNumber c     the coin that tries to become king 0, queen 1, pawn 2
 --     cellAt m c       where a cell of the gate of a meeting lies in the store
 use Prim.Native.Nat.{ℕ, _+_, _*_}
 use mathlib.Core.Bool.{cond}
@@ -16,8 +15,6 @@ use Rattle.steps.specs.declared.codes.Mark.{Mark}
 use Rattle.steps.specs.declared.codes.Mark.the-variants.{Empty, Reg, Pro, Abort}
 use Rattle.steps.specs.declared.codes.Role.{Role}
 use Rattle.steps.specs.declared.codes.Role.the-variants.{Nobody, King, Queen, Pawn, PromotedPawn}
-use Rattle.steps.specs.declared.codes.Coin.{Coin}
-use Rattle.steps.specs.declared.codes.Coin.the-variants.{TryKing, TryQueen, TryPawn}
 use Rattle.steps.specs.declared.cells.Cell.{Cell}
 use Rattle.steps.specs.declared.cells.Cell.the-variants.{Count, SyncOne, SyncTwo, Pawns, Apply, Role as RoleOf}
 
@@ -48,11 +45,6 @@ roleOf x =
     cond (eqb x 0) (Some Nobody)
     (cond (eqb x 1) (Some King)
     (cond (eqb x 2) (Some Queen) (cond (eqb x 3) (Some Pawn) (cond (eqb x 4) (Some PromotedPawn) None))))
-
-abbrev pub coinNumber : Coin → ℕ
-coinNumber TryKing = 0
-coinNumber TryQueen = 1
-coinNumber TryPawn = 2
 
 abbrev pub cellAt : Meeting → Cell → ℕ
 cellAt m Count = m .base + countCell

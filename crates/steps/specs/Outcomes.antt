@@ -9,7 +9,7 @@
 --     put ws m c x      the cells with x in a cell of the gate
 --     swapped ws m c x y    the cells with y in a cell of the gate if it held x
 --     closes s          the place at which the seat withdraws its application: 48 when leaving, 32 when climbing
---     captured s        the seat that has won the gates up to its aim
+--     captured m s      the seat that has won the gates up to its aim
 use Prim.Native.Nat.{ℕ, _+_, _≤_, _<_}
 use mathlib.Core.Path.{_≡_}
 use mathlib.Core.List.{List}

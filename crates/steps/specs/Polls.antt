@@ -1,7 +1,8 @@
 -- A poll of one seat: the questions about it in turn, and then the step of its place. Assumes nothing.
 --     ask q f rest        the refusal f where the question q is answered by no, else what the rest says
 --     takesPart n s       the seat is not away, and n is its passage
---     stepOf p            the step of a place
+--     stepOf p, stepped   the step of a place; the step of the seat's own place
+--     coinOf k            the role that a coin tries for
 --     pollRefusal w p n k s size    the refusal of a poll of seat p with passage n and coin k, if it is refused
 --     Asked, Due                    the poll is accepted, and what its step may rely on
 --     polledSeat w p n k s ws       what the poll does
@@ -15,6 +16,7 @@ use Rattle.std.specs.declared.option.Option.{Option}
 use Rattle.std.specs.declared.option.Option.the-variants.{Some, None}
 use Rattle.std.specs.declared.result.Result.{Result}
 use Rattle.std.specs.declared.result.Result.the-variants.{Ok, Err}
+use Rattle.layout.specs.declared.fault.BoxFault.{BoxFault}
 use Rattle.layout.specs.declared.fault.Refusal.{Refusal}
 use Rattle.layout.specs.declared.path.Meeting.{Meeting}
 use Rattle.layout.specs.Gates.{cellsOf}
@@ -76,6 +78,7 @@ ask q f rest = cond q rest (Some f)
 abbrev pub takesPart : ℕ → Seat → Bool
 takesPart n s = not (eqb (stateNumber (s .state)) 0) && eqb (s .passage .0) n
 
+-- coin 0 tries to become king, 1 queen, 2 pawn
 abbrev pub coinOf : ℕ → Coin
 coinOf k = cond (eqb k 0) TryKing (cond (eqb k 1) TryQueen TryPawn)
 
@@ -102,6 +105,11 @@ pub record Due (w p n k : ℕ) (s : Seat) (size : ℕ) (m : Meeting) (c : Coin) 
   pub room : Room m size
   pub ready : Ready (m .ways) s
 
+-- what is refused changes nothing
+abbrev pub Unchanged : {A : Type 0} → Result A BoxFault → (vs ws : List ℕ) (t s : Seat) → Type 0
+Unchanged (Ok x) vs ws t s = Unit {0}
+Unchanged (Err e) vs ws t s = (vs ≡ ws) × (t ≡ s)
+
 abbrev pub refusedBy : {A : Type 0} → Refusal → List ℕ → Seat → Outcome A
 refusedBy f ws s = record { answer = Err f; cells = ws; seat = s }
 
@@ -117,5 +125,6 @@ abbrev pub pollAfter : Option Refusal → (w p k : ℕ) → Seat → List ℕ �
 pollAfter (Some f) w p k s ws = refusedBy f ws s
 pollAfter None w p k s ws = stateTold (stepped (coinOf k) (meeting w p (s .height)) s ws)
 
-abbrev pub polledSeat : (w p n k : ℕ) → Seat → List ℕ → Outcome ℕ
+-- shut, for those who build on it
+unfoldable pub polledSeat : (w p n k : ℕ) → Seat → List ℕ → Outcome ℕ
 polledSeat w p n k s ws = pollAfter (pollRefusal w p n k s (length ws)) w p k s ws

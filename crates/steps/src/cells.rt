@@ -14,7 +14,7 @@ use store::Store;
 // A cell of a gate.
 #[derive(Clone, Copy)]
 pub enum Cell {
-    // how many of king and queen there are
+    // 0 open, 1 taken by a king, 2 taken by king and queen or by who came after them
     Count,
     // 0, the height up to which the king hands over, or 15 if the queen has gone
     SyncOne,

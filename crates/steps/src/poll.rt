@@ -4,7 +4,7 @@ ghost use Rattle.std.specs.declared.option.Option.the-variants.{Some};
 ghost use Rattle.layout.specs.Refusals.{refusalOf, toldAs};
 ghost use Rattle.seats.specs.Places.{stateNumber};
 ghost use Rattle.steps.specs.Outcomes.{Does};
-ghost use Rattle.steps.specs.Polls.{Asked, Due, pollRefusal, polledSeat};
+ghost use Rattle.steps.specs.Polls.{Asked, Due, Unchanged, pollRefusal, polledSeat};
 use crate::codes::Coin;
 use crate::step::step;
 use layout::BoxFault;
@@ -23,7 +23,8 @@ pub fn poll_seat<S: Store>(
     passage: Passage,
     coin: u8,
 ) -> Result<State, BoxFault>
-    ensures { λ r. ⌜ Does (polledSeat (path .ways) (path .seat .0) (passage .0) coin (now (seat .entry)) (words (now (store .entry)))) (toldAs stateNumber r) (words (now (store .exit))) (now (seat .exit)) ⌝ }
+    ensures does { λ r. ⌜ Does (polledSeat (path .ways) (path .seat .0) (passage .0) coin (now (seat .entry)) (words (now (store .entry)))) (toldAs stateNumber r) (words (now (store .exit))) (now (seat .exit)) ⌝ }
+    ensures same { λ r. ⌜ Unchanged r (words (now (store .exit))) (words (now (store .entry))) (now (seat .exit)) (now (seat .entry)) ⌝ }
 {
     let due = due(store.size(), seat, path, passage, coin)?;
     step(store, seat, due.at, due.coin)?;
