@@ -97,13 +97,9 @@ pub(crate) fn mark_promoted<S: Store>(
     ensures { λ r. ⌜ Does (markPromoted at (now (seat .entry)) (words (now (store .entry)))) (told r) (words (now (store .exit))) (now (seat .exit)) ⌝ }
 {
     let number = seat.kept_number;
-    swap(
-        store,
-        at,
-        Cell::Apply(seat.kept_way),
-        pair(number, Mark::Reg),
-        pair(number, Mark::Pro),
-    )?;
+    let cell = Cell::Apply(seat.kept_way);
+    let waits = pair(number, Mark::Reg);
+    swap(store, at, cell, waits, pair(number, Mark::Pro))?;
     seat.place = closing_place(seat);
     Ok(())
 }

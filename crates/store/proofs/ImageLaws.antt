@@ -47,14 +47,14 @@ eight w h = omega arith
 -- the word that was written, and each other word
 pub wordAt-put : (bs : List ℕ) (at w : ℕ) → at + 8 ≤ length bs → w < 2 ^ 64 → wordAt (putWord bs at w) at ≡ w
 wordAt-put bs at w h l =
-    let e0 : getD (putWord bs at w) at 0 ≡ w / 72057594037927936 % 256 = ap (λ n. getD (putWord bs at w) n 0) (omega arith) ∙ getD-put-in bs at w 0 h (omega arith) in
-    let e1 = getD-put-in bs at w 1 h (omega arith) in
-    let e2 = getD-put-in bs at w 2 h (omega arith) in
-    let e3 = getD-put-in bs at w 3 h (omega arith) in
-    let e4 = getD-put-in bs at w 4 h (omega arith) in
-    let e5 = getD-put-in bs at w 5 h (omega arith) in
-    let e6 = getD-put-in bs at w 6 h (omega arith) in
-    let e7 = getD-put-in bs at w 7 h (omega arith) in
+    let b0 : getD (putWord bs at w) at 0 ≡ w / 72057594037927936 % 256 = ap (λ n. getD (putWord bs at w) n 0) (omega arith) ∙ getD-put-in bs at w 0 h (omega arith) in
+    let b1 = getD-put-in bs at w 1 h (omega arith) in
+    let b2 = getD-put-in bs at w 2 h (omega arith) in
+    let b3 = getD-put-in bs at w 3 h (omega arith) in
+    let b4 = getD-put-in bs at w 4 h (omega arith) in
+    let b5 = getD-put-in bs at w 5 h (omega arith) in
+    let b6 = getD-put-in bs at w 6 h (omega arith) in
+    let b7 = getD-put-in bs at w 7 h (omega arith) in
     omega arith
 
 pub wordAt-put-below : (bs : List ℕ) (at w j : ℕ) → at + 8 ≤ length bs → j + 8 ≤ at → wordAt (putWord bs at w) j ≡ wordAt bs j
