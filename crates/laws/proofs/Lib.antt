@@ -1,1 +1,4 @@
+pub mod Ranks
+pub mod RankLaws
 pub mod RunLaws
+pub mod Prompt
