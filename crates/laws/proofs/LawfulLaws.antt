@@ -1,6 +1,7 @@
 -- What a lawful record says of a seat that takes part. Assumes nothing.
 --     LawfulParts, parts-from-lawful    its three conditions
---     leaves-at, quits-at               a seat that leaves; a seat that climbs and has given up
+--     leaves-at, quits-at, fresh-at     a seat that leaves; one that climbs and has given up; one that has not
+--     holding-top                       a holder has won every height
 use Prim.Native.Nat.{ℕ, _+_, _≤_, _<_}
 use mathlib.Core.Path.{_≡_, refl}
 use mathlib.Core.Logic.{_⊎_}
@@ -66,3 +67,29 @@ quits-at w s few p e g =
     let f = climbing-fits w (s .height) (s .top) n (s .state) (p .place) e in
     let r = ranged-facts w s (p .numbers) in
     record { state = e; place = refl; mark = g; from = marked-from (s .place) s (p .mark) (f .1) g; off = f .2; won = won-from n s (p .mark); low = f .0; height = r .0; aim = r .2; scan = r .3; few = few }
+
+fresh-place : (x : Place) (s : Seat) → markFitsAt (placeNumber x) s ≡ true → s .state ≡ Climbing → s .«gave_up» ≡ false → (placeNumber x ≤ 32) ⊎ (52 ≤ placeNumber x) → placeNumber x ≤ 16
+fresh-place x s e c g o = grind (arith, tells)
+
+-- a climbing seat that has not given up
+pub record FreshAt (w : ℕ) (s : Seat) : Type 0 where
+  pub state : s .state ≡ Climbing
+  pub low : s .height ≡ s .top + 1
+  pub height : s .height ≤ heightsOf w
+  pub aim : s .aim ≤ heightsOf w
+  pub from : 2 ≤ placeNumber (s .place)
+  pub upto : placeNumber (s .place) ≤ 16
+  pub won : placeNumber (s .place) ≡ 16 → s .height ≤ s .aim
+
+pub fresh-at : (w : ℕ) (s : Seat) → LawfulParts w s → s .state ≡ Climbing → s .«gave_up» ≡ false → FreshAt w s
+fresh-at w s p e g =
+    let n = placeNumber (s .place) in
+    let f = climbing-fits w (s .height) (s .top) n (s .state) (p .place) e in
+    let r = ranged-facts w s (p .numbers) in
+    record { state = e; low = f .0; height = r .0; aim = r .2; from = f .1; upto = fresh-place (s .place) s (p .mark) e g (f .2); won = won-from n s (p .mark) }
+
+holding-fits : (w h t n : ℕ) (x : State) → placeFitsIn x w h t n ≡ true → stateNumber x ≡ 2 → t ≡ heightsOf w
+holding-fits w h t n x e q = grind (arith, tells)
+
+pub holding-top : (w : ℕ) (s : Seat) → LawfulParts w s → stateNumber (s .state) ≡ 2 → s .top ≡ heightsOf w
+holding-top w s p e = holding-fits w (s .height) (s .top) (placeNumber (s .place)) (s .state) (p .place) e
