@@ -9,5 +9,12 @@ pub fn known_values() -> u8
     ensures polls { λ r. ⌜ allAfter (r * 2) ≡ replicate 9 2 ⌝ }
     ensures values { λ _. ⌜ Known ⌝ }
 {
+    polls_a_height()
+}
+
+// Enter by one's way, become king, and win the gate.
+fn polls_a_height() -> u8
+    ensures { λ r. ⌜ r ≡ 3 ⌝ }
+{
     3
 }

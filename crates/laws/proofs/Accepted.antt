@@ -79,10 +79,12 @@ apply-accepted b p x e =
     let a = both-none (enterRefusal b p) _ n in
     let a₇ = asked (isIn 0 (seatAt b p)) (refusal 7 p) _ (a .1) in
     let a₈ = asked (leb (b .next) 16383) (refusal 8 p) None (a₇ .1) in
-    record { enters = entered b p (a .0)
-           ; away = eqb-true _ _ (a₇ .0)
-           ; number = leb-true _ _ (a₈ .0)
-           ; after = settled-is b (applyRefusal b p) (b .next) _ n }
+    record {
+      enters = entered b p (a .0);
+      away = eqb-true _ _ (a₇ .0);
+      number = leb-true _ _ (a₈ .0);
+      after = settled-is b (applyRefusal b p) (b .next) _ n;
+    }
 
 owned : (b : BoxState) (p n : ℕ) → ownRefusal b p n ≡ None → Entered b p × (takesPart n (seatAt b p) ≡ true)
 owned b p n e =
@@ -100,10 +102,12 @@ give-up-accepted b p n x e =
     let r = not-refused b (giveUpRefusal b p n) _ x _ e in
     let a = both-none (ownRefusal b p n) _ r in
     let a₇ = and-parts _ _ (asked (isIn 1 (seatAt b p) && not (seatAt b p .«gave_up»)) (refusal 7 p) None (a .1) .0) in
-    record { enters = owned b p n (a .0) .0
-           ; climbs = eqb-true _ _ (a₇ .0)
-           ; unmarked = not-true _ (a₇ .1)
-           ; after = settled-is b (giveUpRefusal b p n) _ _ r }
+    record {
+      enters = owned b p n (a .0) .0;
+      climbs = eqb-true _ _ (a₇ .0);
+      unmarked = not-true _ (a₇ .1);
+      after = settled-is b (giveUpRefusal b p n) _ _ r;
+    }
 
 pub record HeldBy (b : BoxState) (p n : ℕ) : Type 0 where
   pub enters : Entered b p
@@ -114,10 +118,12 @@ pub record HeldBy (b : BoxState) (p n : ℕ) : Type 0 where
 held : (b : BoxState) (p n : ℕ) → holderRefusal b p n ≡ None → HeldBy b p n
 held b p n r =
     let a = both-none (ownRefusal b p n) _ r in
-    record { enters = owned b p n (a .0) .0
-           ; holds = eqb-true _ _ (asked (isIn 2 (seatAt b p)) (refusal 7 p) None (a .1) .0)
-           ; left-after = settled-is b (holderRefusal b p n) _ _ r
-           ; published-after = settled-is b (holderRefusal b p n) _ _ r }
+    record {
+      enters = owned b p n (a .0) .0;
+      holds = eqb-true _ _ (asked (isIn 2 (seatAt b p)) (refusal 7 p) None (a .1) .0);
+      left-after = settled-is b (holderRefusal b p n) _ _ r;
+      published-after = settled-is b (holderRefusal b p n) _ _ r;
+    }
 
 pub leave-accepted : (b : BoxState) (p n x : ℕ) → left b p n .answer ≡ Ok x → HeldBy b p n
 leave-accepted b p n x e = held b p n (not-refused b (holderRefusal b p n) _ x _ e)
@@ -173,11 +179,13 @@ module _ (b : BoxState) (p n k : ℕ) where
       let a₆ = asked (takesPart n s) (refusal 6 p) _ (a₅ .1) in
       let a₇ = asked (isIn 1 s || isIn 3 s) (refusal 7 p) _ (a₆ .1) in
       let a₉ = asked (leb k 2) (refusal 9 p) None (a₇ .1) in
-      record { reach = reached b p (r .0)
-             ; law = a₅ .0
-             ; moves = ⊎-elim (λ h. inl (eqb-true _ _ h)) (λ h. inr (eqb-true _ _ h)) (or-cases (isIn 1 s) (isIn 3 s) (a₇ .0))
-             ; coin = leb-true _ _ (a₉ .0)
-             ; done = stated w p k s ws (pollStep b p k .answer) (pollStep b p k .seat) x (sym (ap (λ o. o .answer) q) ∙ r .1)
-             ; after = ap (λ f. pollSettled f b p seat-poll .after) (r .0)
-                 ∙ (ap (λ a. seatSettled b p a seat-poll .after) (r .1)
-                 ∙ ap (λ o. withSeat b p (o .seat) (o .cells)) q) }
+      record {
+        reach = reached b p (r .0);
+        law = a₅ .0;
+        moves = ⊎-elim (λ h. inl (eqb-true _ _ h)) (λ h. inr (eqb-true _ _ h)) (or-cases (isIn 1 s) (isIn 3 s) (a₇ .0));
+        coin = leb-true _ _ (a₉ .0);
+        done = stated w p k s ws (pollStep b p k .answer) (pollStep b p k .seat) x (sym (ap (λ o. o .answer) q) ∙ r .1);
+        after = ap (λ f. pollSettled f b p seat-poll .after) (r .0)
+            ∙ (ap (λ a. seatSettled b p a seat-poll .after) (r .1)
+            ∙ ap (λ o. withSeat b p (o .seat) (o .cells)) q);
+      }

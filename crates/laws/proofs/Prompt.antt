@@ -113,21 +113,23 @@ module _ (b : BoxState) (p n k : ℕ) (few : 2 ≤ b .ways) (h : PolledBy b p n 
   leaving-falls : stateNumber (seatAt b p .state) ≡ 3 → Falls b p k leavingOn
   unfolding at-gate Falls
   leaving-falls e =
-      let f = leaves-at (b .ways) (seatAt b p) few (parts b p n k few h) (is-leaving (seatAt b p .state) e) in
-      ( falls-leaving (seatAt b p .place) (coinOf k) at-gate (seatAt b p) (b .cells) f (h .done)
-      , stays-leaving (seatAt b p .place) (coinOf k) at-gate (seatAt b p) (b .cells) f )
+      let f = leaves-at (b .ways) (seatAt b p) few (parts b p n k few h) (is-leaving (seatAt b p .state) e) in (
+        falls-leaving (seatAt b p .place) (coinOf k) at-gate (seatAt b p) (b .cells) f (h .done),
+        stays-leaving (seatAt b p .place) (coinOf k) at-gate (seatAt b p) (b .cells) f,
+      )
 
   quitting-falls : quittingOn (seatAt b p) ≡ true → Falls b p k quittingOn
   unfolding at-gate Falls leaving-falls
   quitting-falls q =
       ⊎-elim
       (λ (e : stateNumber (seatAt b p .state) ≡ 1).
-        let c = is-climbing (seatAt b p .state) e in
-        let f = quits-at (b .ways) (seatAt b p) few (parts b p n k few h) c (quitting-marked (seatAt b p) q c) in
-        ( falls-quitting (seatAt b p .place) (coinOf k) at-gate (seatAt b p) (b .cells) f (h .done)
-        , stays-quitting (seatAt b p .place) (coinOf k) at-gate (seatAt b p) (b .cells) f ))
+      let c = is-climbing (seatAt b p .state) e in
+      let f = quits-at (b .ways) (seatAt b p) few (parts b p n k few h) c (quitting-marked (seatAt b p) q c) in (
+        falls-quitting (seatAt b p .place) (coinOf k) at-gate (seatAt b p) (b .cells) f (h .done),
+        stays-quitting (seatAt b p .place) (coinOf k) at-gate (seatAt b p) (b .cells) f,
+      ))
       (λ (e : stateNumber (seatAt b p .state) ≡ 3).
-        let f = leaving-falls e in (f .0, leaving-quits (pollStep b p k .seat) (f .1)))
+      let f = leaving-falls e in (f .0, leaving-quits (pollStep b p k .seat) (f .1)))
       (h .moves)
 
 -- a refused call changes nothing
@@ -177,7 +179,7 @@ module _ (on : Seat → Bool) (falls : (b : BoxState) (p n k : ℕ) → 2 ≤ b 
   unfolding Fares
   same-fares c b p one z e o =
       let r : rankOf (performed c b .after .ways) (seatAt (performed c b .after) p) ≡ rankOf (b .ways) (seatAt b p) =
-        ap (λ w. rankOf w (seatAt (performed c b .after) p)) (ways-performed c b) ∙ ap (λ s. rankOf (b .ways) s) e in
+      ap (λ w. rankOf w (seatAt (performed c b .after) p)) (ways-performed c b) ∙ ap (λ s. rankOf (b .ways) s) e in
       (omega (arith, r, z), ap on e ∙ o)
 
   poll-fares : (b : BoxState) (p n k : ℕ) → 2 ≤ b .ways → PolledBy b p n k → on (seatAt b p) ≡ true → Fares (Poll (record { 0 = p }) (record { 0 = n }) k) b p 1
@@ -187,7 +189,7 @@ module _ (on : Seat → Bool) (falls : (b : BoxState) (p n k : ℕ) → 2 ≤ b 
       let e = polled-seat b p n k few h in
       let f = falls b p n k few h o in
       let r : rankOf (performed c b .after .ways) (seatAt (performed c b .after) p) ≡ rankOf (b .ways) (pollStep b p k .seat) =
-        ap (λ w. rankOf w (seatAt (performed c b .after) p)) (ways-performed c b) ∙ ap (λ s. rankOf (b .ways) s) e in
+      ap (λ w. rankOf w (seatAt (performed c b .after) p)) (ways-performed c b) ∙ ap (λ s. rankOf (b .ways) s) e in
       (omega (arith, r, f .0), ap on e ∙ f .1)
 
   counted : ℕ → Call → BoxState → ℕ
@@ -209,8 +211,8 @@ module _ (on : Seat → Bool) (falls : (b : BoxState) (p n k : ℕ) → 2 ≤ b 
   own-fares (Apply q) b x few y o e = absurd (not-zero (seatAt b (q .0)) y (apply-accepted b (q .0) x e .away))
   own-fares (Poll q n k) b x few y o e =
       let one : counted (q .0) (Poll q n k) b ≡ 1 =
-        ap (λ t. cond (t && isOk (polled b (q .0) (n .0) k .answer)) 1 0) (eq-eqb (q .0) (q .0) refl)
-        ∙ ap (λ r. cond (isOk r) 1 0) e in
+      ap (λ t. cond (t && isOk (polled b (q .0) (n .0) k .answer)) 1 0) (eq-eqb (q .0) (q .0) refl)
+      ∙ ap (λ r. cond (isOk r) 1 0) e in
       rw one (poll-fares b (q .0) (n .0) k few (poll-accepted b (q .0) (n .0) k x e) o)
   own-fares (GiveUp q n) b x few y o e =
       let h = give-up-accepted b (q .0) (n .0) x e in absurd (not-fresh (seatAt b (q .0)) y (h .climbs) (h .unmarked))
@@ -223,10 +225,10 @@ module _ (on : Seat → Bool) (falls : (b : BoxState) (p n k : ℕ) → 2 ≤ b 
   call-fares c b p few y o (Ok x) e =
       ⊎-elim
       (λ (s : p ≡ seatOf c).
-        subst (λ (q : ℕ). Fares c b q (counted q c b)) (sym s)
-        (own-fares c b x few (subst (λ (q : ℕ). Busy (seatAt b q)) s y) (subst (λ (q : ℕ). on (seatAt b q) ≡ true) s o) e))
+      subst (λ (q : ℕ). Fares c b q (counted q c b)) (sym s)
+      (own-fares c b x few (subst (λ (q : ℕ). Busy (seatAt b q)) s y) (subst (λ (q : ℕ). on (seatAt b q) ≡ true) s o) e))
       (λ (ne : p ≡ seatOf c → ⊥).
-        same-fares c b p (counted p c b) (uncounted p c b (inl (polls-other p c ne))) (seat-other c b p ne) o)
+      same-fares c b p (counted p c b) (uncounted p c b (inl (polls-other p c ne))) (seat-other c b p ne) o)
       (cases-eq p (seatOf c))
 
   -- the polls until a seat is out are no more than its number
@@ -238,9 +240,9 @@ module _ (on : Seat → Bool) (falls : (b : BoxState) (p n k : ℕ) → 2 ≤ b 
         cond-both (out b p) 0 (cond (pollsSeat p c && accepts c b) 1 0 + pollsUntil out p cs (performed c b .after)) (λ n. n ≤ rankOf (b .ways) (seatAt b p))
         (λ e. zero-le)
         (λ e.
-          let f = call-fares c b p few (busy b p o e) o (performed c b .answer) refl in
-          let w : 2 ≤ performed c b .after .ways = omega (arith, ways-performed c b) in
-          let r = until-rank cs (performed c b .after) p w (f .1) in omega (arith, f .0, r))
+        let f = call-fares c b p few (busy b p o e) o (performed c b .answer) refl in
+        let w : 2 ≤ performed c b .after .ways = omega (arith, ways-performed c b) in
+        let r = until-rank cs (performed c b .after) p w (f .1) in omega (arith, f .0, r))
 
 quitting-busy : (b : BoxState) (p : ℕ) → quittingOn (seatAt b p) ≡ true → isOut b p ≡ false → Busy (seatAt b p)
 unfolding Busy

@@ -36,12 +36,12 @@ mostWon w h = cond (eqb h (heightsOf w)) 0 (release w 1 (heightsOf w - 1))
 abbrev pub freeing : ℕ → ℕ → Seat → ℕ
 freeing n w s =
     cond (eqb n 52) (10 + (w - s .scan .0))
-        (getD (0 ∷ 10 ∷ 9 ∷ 0 ∷ 8 ∷ 7 ∷ 6 ∷ 5 ∷ 0 ∷ 0 ∷ 4 ∷ 3 ∷ 0 ∷ 2 ∷ 1 ∷ 0 ∷ 1 ∷ []) (n - 54) 0)
+    (getD (0 ∷ 10 ∷ 9 ∷ 0 ∷ 8 ∷ 7 ∷ 6 ∷ 5 ∷ 0 ∷ 0 ∷ 4 ∷ 3 ∷ 0 ∷ 2 ∷ 1 ∷ 0 ∷ 1 ∷ []) (n - 54) 0)
 
 abbrev pub leavingRank : ℕ → ℕ → Seat → ℕ
 leavingRank n w s =
     cond (leb n 37) (38 - n + max (12 + w) (11 + restOf w s))
-        (cond (leb n 49) (50 - n + restOf w s) (2 + freeing n w s + restOf w s))
+    (cond (leb n 49) (50 - n + restOf w s) (2 + freeing n w s + restOf w s))
 
 abbrev pub queenRank : ℕ → Seat → ℕ
 queenRank w s = 1 + max (11 + w + backOf w s) (1 + mostWon w (s .height))
@@ -52,10 +52,10 @@ pawnRank w s = 1 + max (1 + backOf w s) (wonOf w (s .height))
 abbrev pub climbingRank : ℕ → ℕ → Seat → ℕ
 climbingRank n w s =
     cond (eqb n 16) (1 + wonOf w (s .aim))
-        (cond (eqb n 19) (1 + max (queenRank w s) (pawnRank w s))
-            (cond (eqb n 21) (pawnRank w s)
-                (cond (eqb n 26) (queenRank w s)
-                    (cond (eqb n 27) (1 + mostWon w (s .height)) (1 + freeing n w s + backOf w s)))))
+    (cond (eqb n 19) (1 + max (queenRank w s) (pawnRank w s))
+    (cond (eqb n 21) (pawnRank w s)
+    (cond (eqb n 26) (queenRank w s)
+    (cond (eqb n 27) (1 + mostWon w (s .height)) (1 + freeing n w s + backOf w s)))))
 
 abbrev pub rankIn : State → ℕ → Seat → ℕ
 rankIn Away w s = 0
