@@ -1,0 +1,4 @@
+pub mod ReplyLaws
+pub mod ServingLaws
+pub mod ReaderLaws
+pub mod SessionLaws

@@ -1,0 +1,6 @@
+pub mod Faults
+pub mod Messages
+pub mod Reader
+pub mod Replies
+pub mod Serving
+pub mod Sessions
