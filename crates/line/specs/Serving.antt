@@ -2,10 +2,12 @@
 --     mapped f o      an outcome whose answer is told as bytes
 --     served b q      the outcome of the request q at the box b: the content of the reply, or the refusal
 --     replyIn k r     the body of the reply to a message of kind k
+--     sizeOf r        how long the content of a reply is, 0 for a refusal
 --     Serves          a function answered a request, and left the box, as an outcome says
-use Prim.Native.Nat.{ℕ}
+use Prim.Native.Nat.{ℕ, _≤_}
 use mathlib.Core.Path.{_≡_}
 use mathlib.Core.List.{List, [], _∷_}
+use lib.ListN.{length}
 use Rattle.std.specs.declared.result.Result.{Result}
 use Rattle.std.specs.declared.result.Result.the-variants.{Ok, Err}
 use Rattle.layout.specs.declared.fault.Refusal.{Refusal}
@@ -37,7 +39,12 @@ abbrev pub replyIn : ℕ → Result Reply LineFault → List ℕ
 replyIn k (Ok r) = replyBody k (Ok (contentOf r))
 replyIn k (Err f) = refusedBody (toldTo k f)
 
+abbrev pub sizeOf : Result Reply LineFault → ℕ
+sizeOf (Ok r) = length (contentOf r)
+sizeOf (Err f) = 0
+
 pub record Serves (q : Request) (o : CallOutcome (List ℕ)) (r : Result Reply LineFault) (b : BoxState) : Type 0 where
+  pub short : sizeOf r ≤ 81
   pub reply : replyIn (kindOf q) r ≡ replyBody (kindOf q) (o .answer)
   pub ways : b .ways ≡ o .after .ways
   pub next : b .next ≡ o .after .next

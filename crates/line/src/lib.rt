@@ -1,8 +1,8 @@
 // The message line: reads messages from bytes, has the box serve them, and writes the replies as bytes.
 
 pub mod fault;
-pub mod messages;
-pub mod reader;
+mod messages;
+mod reader;
 mod replies;
 mod serving;
 pub mod session;

@@ -1,8 +1,6 @@
 ghost use Prim.Native.Nat.{_≤_};
-ghost use Rattle.std.specs.Results.{Cases};
 ghost use Rattle.lock.specs.States.{stateOf};
 ghost use Rattle.line.specs.Messages.{requestOf, textSize};
-ghost use Rattle.line.specs.Replies.{contentSize};
 ghost use Rattle.line.specs.Serving.{Serves, served};
 use crate::fault::LineFault;
 use crate::fault::LineFromBox;
@@ -26,8 +24,7 @@ pub(crate) fn serve<'a, S: Store>(
     message: Message<'a>,
 ) -> Result<Reply<'a>, LineFault>
     requires { ⌜ textSize message ≤ 80 ⌝ }
-    ensures served { λ r. ⌜ Serves (requestOf (message .entry)) (served (stateOf (now (gate .entry)) (now (table .entry)) (words (now (store .entry)))) (requestOf (message .entry))) r (stateOf (now (gate .exit)) (now (table .exit)) (words (now (store .exit)))) ⌝ }
-    ensures short { λ r. ⌜ Cases r (λ x. contentSize x ≤ 81) (λ _. Unit {0}) ⌝ }
+    ensures { λ r. ⌜ Serves (requestOf (message .entry)) (served (stateOf (now (gate .entry)) (now (table .entry)) (words (now (store .entry)))) (requestOf (message .entry))) r (stateOf (now (gate .exit)) (now (table .exit)) (words (now (store .exit)))) ⌝ }
 {
     match message {
         Message::Apply { seat } => {
