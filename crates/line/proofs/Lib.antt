@@ -2,3 +2,4 @@ pub mod ReplyLaws
 pub mod ServingLaws
 pub mod ReaderLaws
 pub mod SessionLaws
+pub mod StreamLaws

@@ -4,3 +4,4 @@ pub mod Reader
 pub mod Replies
 pub mod Serving
 pub mod Sessions
+pub mod Streams

@@ -6,6 +6,7 @@ mod reader;
 mod replies;
 mod serving;
 pub mod session;
+pub mod stream;
 
 pub use fault::LineFault;
 pub use fault::LineFromBox;
@@ -15,3 +16,7 @@ pub use reader::Cursor;
 pub use reader::next_message;
 pub use session::Answered;
 pub use session::answer;
+pub use stream::Pause;
+pub use stream::Progress;
+pub use stream::answer_all;
+pub use stream::waits;
