@@ -3,3 +3,5 @@ pub mod ServingLaws
 pub mod ReaderLaws
 pub mod SessionLaws
 pub mod StreamLaws
+pub mod CourseLaws
+pub mod CutLaws

@@ -64,7 +64,7 @@ written-to (Ok (Some q)) b at w out =
 written-to (Err f) b at w out =
     omega (arith, length-append (refusalTo f) (drop (length (refusalTo f)) out))
 
-written-in : (b : BoxState) (at w : ℕ) (bs out : List ℕ) → writtenBy (answered b at bs out .answer) w ≤ w + length (answered b at bs out .memory)
+pub written-in : (b : BoxState) (at w : ℕ) (bs out : List ℕ) → writtenBy (answered b at bs out .answer) w ≤ w + length (answered b at bs out .memory)
 unfolding answered
 written-in b at w bs out =
     let o : Bool → Answering = λ x. cond x (record { answer = Err ReplyRoom; box = b; place = at; memory = out }) (answeredTo (nextOf (drop at bs)) b (placeOf at (drop at bs)) out) in
@@ -93,7 +93,7 @@ same-box b c p q r s =
     let S : List ℕ → BoxState = λ x. record { ways = c .ways; next = c .next; seats = c .seats; cells = x } in
     ap P p ∙ (ap Q q ∙ (ap R r ∙ ap S s))
 
-same-turn : (o : Turn) (p : Option Pause) (w : ℕ) (b : BoxState) (at : ℕ) (out : List ℕ) → Turns o p w b at out → record { pause = p; written = w; box = b; place = at; memory = out } ≡ o
+pub same-turn : (o : Turn) (p : Option Pause) (w : ℕ) (b : BoxState) (at : ℕ) (out : List ℕ) → Turns o p w b at out → record { pause = p; written = w; box = b; place = at; memory = out } ≡ o
 same-turn o p w b at out s =
     let k = same-box b (o .box) (s .ways) (s .next) (s .seats) (s .cells) in
     let P : Option Pause → Turn = λ x. record { pause = x; written = w; box = b; place = at; memory = out } in

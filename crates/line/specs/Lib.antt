@@ -5,3 +5,4 @@ pub mod Replies
 pub mod Serving
 pub mod Sessions
 pub mod Streams
+pub mod Courses

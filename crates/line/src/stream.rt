@@ -4,6 +4,7 @@ ghost use Prim.Native.Nat.{_≤_, suc};
 ghost use lib.ListN.{length, drop};
 ghost use Rattle.std.specs.declared.option.Option.the-variants.{Some};
 ghost use Rattle.lock.specs.States.{stateOf};
+ghost use Rattle.line.specs.Courses.{Cuts};
 ghost use Rattle.line.specs.Streams.{Turns, streamed, turnOf, turned, waitsFor};
 use crate::reader::Cursor;
 use crate::session::Answered;
@@ -42,7 +43,8 @@ pub fn answer_all<S: Store>(
     ended: bool,
     replies: &mut [u8],
 ) -> Progress
-    ensures { λ r. ⌜ Turns (streamed (suc (length (now (input .entry)))) ended (now (input .entry)) (turnOf 0 (stateOf (now (gate .entry)) (now (table .entry)) (words (now (store .entry)))) (now (place .entry) .at) (now (replies .entry)))) (Some (r .pause)) (r .written) (stateOf (now (gate .exit)) (now (table .exit)) (words (now (store .exit)))) (now (place .exit) .at) (now (replies .exit)) ⌝ }
+    ensures turns { λ r. ⌜ Turns (streamed (suc (length (now (input .entry)))) ended (now (input .entry)) (turnOf 0 (stateOf (now (gate .entry)) (now (table .entry)) (words (now (store .entry)))) (now (place .entry) .at) (now (replies .entry)))) (Some (r .pause)) (r .written) (stateOf (now (gate .exit)) (now (table .exit)) (words (now (store .exit)))) (now (place .exit) .at) (now (replies .exit)) ⌝ }
+    ensures cut { λ r. ⌜ Cuts ended (now (input .entry)) (stateOf (now (gate .entry)) (now (table .entry)) (words (now (store .entry)))) (now (place .entry) .at) (r .pause) (r .written) (stateOf (now (gate .exit)) (now (table .exit)) (words (now (store .exit)))) (now (place .exit) .at) (now (replies .exit)) ⌝ }
 {
     let mut written = 0;
     for turn in 0..input.len() + 1 {

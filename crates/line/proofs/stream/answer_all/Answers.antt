@@ -1,4 +1,5 @@
 use native.Mathlib.Omega.{arith}
+use Rattle.line.proofs.CutLaws.{cuts}
 use Rattle.line.proofs.StreamLaws.{begins, ends, stops, goes-on}
 use Rattle.line.proofs.stream.answer_all.Needs as need
 
@@ -7,11 +8,15 @@ loop-turn-holds g c = (begins _ _ _ _, omega arith)
 
 pub returns-in-Some : need.returns-in-Some
 returns-in-Some g c =
-    stops (c .loop-turn .turn) _ (c .args .input .now) _ _ (c .loop-turn .inv .0) (c .loop-turn-test .taken) _ _ _ _ _ (c .advance-step .ensures .turns) _ (c .in-Some .is)
+    let t =
+    stops (c .loop-turn .turn) _ (c .args .input .now) _ _ (c .loop-turn .inv .0) (c .loop-turn-test .taken) _ _ _ _ _ (c .advance-step .ensures .turns) _ (c .in-Some .is) in
+    record { turns = t; cut = cuts _ (c .args .input .now) _ _ (c .args .replies .now) _ _ _ _ _ t }
 
 pub loop-turn-again : need.loop-turn-again
 loop-turn-again g c =
     (goes-on (c .loop-turn .turn) _ (c .args .input .now) _ _ (c .loop-turn .inv .0) (c .loop-turn-test .taken) _ _ _ _ _ (c .advance-step .ensures .turns) (c .in-rest .is), c .advance-step .ensures .within)
 
 pub returns : need.returns
-returns g c = ends (c .loop-turn .turn) _ (c .args .input .now) _ _ (c .loop-turn .inv .0) (omega arith)
+returns g c =
+    let t = ends (c .loop-turn .turn) _ (c .args .input .now) _ _ (c .loop-turn .inv .0) (omega arith) in
+    record { turns = t; cut = cuts _ (c .args .input .now) _ _ (c .args .replies .now) _ _ _ _ _ t }
