@@ -1,6 +1,9 @@
 -- Sessions: one message more, and more bytes behind. Assumes nothing.
 --     course-next      a session by its next message
 --     next-more        what the reader finds stays, whatever bytes come after a rest that does not wait for any
+--     next-fits        a message that was read lies in the rest
+--     place-by         the reader's place by what it finds
+--     waitsBy          whether a rest waits, by its version, its length and its size
 --     size-kept        what follows a message that was read stays too
 use Prim.Native.Nat.{ℕ, zero, suc, _+_, _-_, _*_, _≤_, _<_}
 use mathlib.Core.Path.{_≡_, refl, ap, sym, subst, _∙_}
@@ -20,7 +23,7 @@ use Rattle.lock.specs.States.{BoxState}
 use Rattle.line.specs.declared.fault.LineFault.{LineFault}
 use Rattle.line.specs.declared.fault.LineFault.the-variants.{Version, Frame}
 use Rattle.line.specs.Messages.{Request, messageOf}
-use Rattle.line.specs.Reader.{afterHeader, headerOf, nextAt, nextOf, readBody, sizeIn}
+use Rattle.line.specs.Reader.{afterHeader, headerOf, nextAt, nextOf, placeBy, placeOf, readBody, sizeIn}
 use Rattle.line.specs.Serving.{served}
 use Rattle.line.specs.Sessions.{replyTo}
 use Rattle.line.specs.Streams.{waitsFor}
@@ -62,7 +65,7 @@ headerBy v l s =
     cond (not (eqb v 1)) (Err Version)
     (cond (ltb l 3) (Err Frame) (cond (ltb s 1 || (ltb 84 s || ltb (l - 3) s)) (Err Frame) (Ok s)))
 
-abbrev waitsBy : (v l s : ℕ) → Bool
+abbrev pub waitsBy : (v l s : ℕ) → Bool
 waitsBy v l s =
     cond (eqb l 0) true
     (cond (not (eqb v 1)) false (cond (ltb l 3) true (leb 1 s && (leb s 84 && ltb (l - 3) s))))
@@ -119,3 +122,7 @@ pub size-kept : (rest xs : List ℕ) (q : Request) → nextOf rest ≡ Ok (Some 
 size-kept rest xs q e =
     let f = next-fits rest q e in
     ap (λ n. drop (3 + n) (rest ++ xs)) (size-more rest xs (omega arith)) ∙ drop-append-le (3 + sizeIn rest) rest xs f
+
+pub place-by : (at : ℕ) (rest : List ℕ) → placeOf at rest ≡ placeBy at rest (nextOf rest)
+unfolding placeOf nextOf
+place-by at rest = refl

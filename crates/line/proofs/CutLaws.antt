@@ -22,12 +22,8 @@ use Rattle.line.specs.Serving.{served}
 use Rattle.line.specs.Sessions.{Answering, answered, answeredTo, replyTo, refusalTo}
 use Rattle.line.specs.Streams.{Turn, Turns, answerAt, awaiting, goesOn, streamed, turnOf, turned, turnedBy, waitsFor}
 use Rattle.line.specs.Courses.{Course, Cuts, behind, course, courseBy, courseRest}
-use Rattle.line.proofs.CourseLaws.{course-next, next-more, size-kept}
+use Rattle.line.proofs.CourseLaws.{course-next, next-more, place-by, size-kept}
 use Rattle.line.proofs.StreamLaws.{same-turn, written-in}
-
-place-by : (at : ℕ) (rest : List ℕ) → placeOf at rest ≡ placeBy at rest (nextOf rest)
-unfolding placeOf nextOf
-place-by at rest = refl
 
 take-two : (out ys zs : List ℕ) (w : ℕ) → w ≤ length out → take (w + length ys) (take w out ++ (ys ++ zs)) ≡ take w out ++ ys
 take-two out ys zs w h =
@@ -103,7 +99,7 @@ module _ (bs xs : List ℕ) (t : Turn) (h : t .written ≤ length (t .memory)) w
     unfolding turned
     one-turn = by-waiting (not e && waitsFor rest) refl
 
-    still-within : turned e bs t .written ≤ length (turned e bs t .memory)
+    pub still-within : turned e bs t .written ≤ length (turned e bs t .memory)
     unfolding turned
     still-within =
         let o : Bool → Turn = λ x. cond x (awaiting t) (turnedBy (answerAt bs t .answer) (answerAt bs t) t) in

@@ -5,3 +5,4 @@ pub mod SessionLaws
 pub mod StreamLaws
 pub mod CourseLaws
 pub mod CutLaws
+pub mod PauseLaws

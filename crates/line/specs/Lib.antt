@@ -6,3 +6,4 @@ pub mod Serving
 pub mod Sessions
 pub mod Streams
 pub mod Courses
+pub mod Pauses

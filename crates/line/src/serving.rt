@@ -27,37 +27,23 @@ pub(crate) fn serve<'a, S: Store>(
     ensures { λ r. ⌜ Serves (requestOf (message .entry)) (served (stateOf (now (gate .entry)) (now (table .entry)) (words (now (store .entry)))) (requestOf (message .entry))) r (stateOf (now (gate .exit)) (now (table .exit)) (words (now (store .exit)))) ⌝ }
 {
     match message {
-        Message::Apply { seat } => {
-            let passage = apply(gate, store, table, seat)?;
-            Ok(Reply::Applied(passage))
-        }
+        Message::Apply { seat } => Ok(Reply::Applied(apply(gate, store, table, seat)?)),
         Message::Poll {
             seat,
             passage,
             coin,
-        } => {
-            let polled = poll(gate, store, table, seat, passage, coin)?;
-            Ok(Reply::Stated(polled))
-        }
+        } => Ok(Reply::Stated(poll(gate, store, table, seat, passage, coin)?)),
         Message::GiveUp { seat, passage } => {
-            let marked = give_up(gate, store, table, seat, passage)?;
-            Ok(Reply::Stated(marked))
+            Ok(Reply::Stated(give_up(gate, store, table, seat, passage)?))
         }
         Message::Leave { seat, passage } => {
-            let departing = leave(gate, store, table, seat, passage)?;
-            Ok(Reply::Stated(departing))
+            Ok(Reply::Stated(leave(gate, store, table, seat, passage)?))
         }
-        Message::Look { seat } => {
-            let view = look(gate, store, table, seat)?;
-            Ok(Reply::Looked(view))
-        }
+        Message::Look { seat } => Ok(Reply::Looked(look(gate, store, table, seat)?)),
         Message::Publish {
             seat,
             passage,
             text,
-        } => {
-            let holding = publish(gate, store, table, seat, passage)?;
-            Ok(Reply::Published(holding, text))
-        }
+        } => Ok(Reply::Published(publish(gate, store, table, seat, passage)?, text)),
     }
 }

@@ -5,62 +5,62 @@ use Rattle.line.specs.Serving.{served}
 use Rattle.line.proofs.ServingLaws.{serves-accepted, serves-refused}
 use Rattle.line.proofs.serving.serve.Needs as need
 
-pub returns-in-Break-passage : need.returns-in-Break-passage
+pub returns-in-Break-apply : need.returns-in-Break-apply
 unfolding served
-returns-in-Break-passage g c =
-    serves-refused _ _ _ _ _ _ (ap requestOf (c .in-Apply .is)) refl _ _ (c .from-residual .ensures .1) (c .in-Break-passage .ensures tt)
+returns-in-Break-apply g c =
+    serves-refused _ _ _ _ _ _ (ap requestOf (c .in-Apply .is)) refl _ _ (c .from-residual .ensures .1) (c .in-Break-apply .ensures tt)
 
-pub returns-in-Continue-passage : need.returns-in-Continue-passage
+pub returns-in-Continue-apply : need.returns-in-Continue-apply
 unfolding served
-returns-in-Continue-passage g c =
-    serves-accepted _ _ _ _ _ _ (ap requestOf (c .in-Apply .is)) refl _ _ (search needs) refl (c .in-Continue-passage .ensures tt)
+returns-in-Continue-apply g c =
+    serves-accepted _ _ _ _ _ _ (ap requestOf (c .in-Apply .is)) refl _ _ (search needs) refl (c .in-Continue-apply .ensures tt)
 
-pub returns-in-Break-polled : need.returns-in-Break-polled
+pub returns-in-Break-poll : need.returns-in-Break-poll
 unfolding served
-returns-in-Break-polled g c =
-    serves-refused _ _ _ _ _ _ (ap requestOf (c .in-Poll .is)) refl _ _ (c .from-residual-in-Break-polled .ensures .1) (c .in-Break-polled .ensures tt)
+returns-in-Break-poll g c =
+    serves-refused _ _ _ _ _ _ (ap requestOf (c .in-Poll .is)) refl _ _ (c .from-residual-in-Break-poll .ensures .1) (c .in-Break-poll .ensures tt)
 
-pub returns-in-Continue-polled : need.returns-in-Continue-polled
+pub returns-in-Continue-poll : need.returns-in-Continue-poll
 unfolding served
-returns-in-Continue-polled g c =
-    serves-accepted _ _ _ _ _ _ (ap requestOf (c .in-Poll .is)) refl _ _ (search needs) refl (c .in-Continue-polled .ensures tt)
+returns-in-Continue-poll g c =
+    serves-accepted _ _ _ _ _ _ (ap requestOf (c .in-Poll .is)) refl _ _ (search needs) refl (c .in-Continue-poll .ensures tt)
 
-pub returns-in-Break-marked : need.returns-in-Break-marked
+pub returns-in-Break-give-up : need.returns-in-Break-give-up
 unfolding served
-returns-in-Break-marked g c =
-    serves-refused _ _ _ _ _ _ (ap requestOf (c .in-GiveUp .is)) refl _ _ (c .from-residual-in-Break-marked .ensures .1) (c .in-Break-marked .ensures tt)
+returns-in-Break-give-up g c =
+    serves-refused _ _ _ _ _ _ (ap requestOf (c .in-GiveUp .is)) refl _ _ (c .from-residual-in-Break-give-up .ensures .1) (c .in-Break-give-up .ensures tt)
 
-pub returns-in-Continue-marked : need.returns-in-Continue-marked
+pub returns-in-Continue-give-up : need.returns-in-Continue-give-up
 unfolding served
-returns-in-Continue-marked g c =
-    serves-accepted _ _ _ _ _ _ (ap requestOf (c .in-GiveUp .is)) refl _ _ (search needs) refl (c .in-Continue-marked .ensures tt)
+returns-in-Continue-give-up g c =
+    serves-accepted _ _ _ _ _ _ (ap requestOf (c .in-GiveUp .is)) refl _ _ (search needs) refl (c .in-Continue-give-up .ensures tt)
 
-pub returns-in-Break-departing : need.returns-in-Break-departing
+pub returns-in-Break-leave : need.returns-in-Break-leave
 unfolding served
-returns-in-Break-departing g c =
-    serves-refused _ _ _ _ _ _ (ap requestOf (c .in-Leave .is)) refl _ _ (c .from-residual-in-Break-departing .ensures .1) (c .in-Break-departing .ensures tt)
+returns-in-Break-leave g c =
+    serves-refused _ _ _ _ _ _ (ap requestOf (c .in-Leave .is)) refl _ _ (c .from-residual-in-Break-leave .ensures .1) (c .in-Break-leave .ensures tt)
 
-pub returns-in-Continue-departing : need.returns-in-Continue-departing
+pub returns-in-Continue-leave : need.returns-in-Continue-leave
 unfolding served
-returns-in-Continue-departing g c =
-    serves-accepted _ _ _ _ _ _ (ap requestOf (c .in-Leave .is)) refl _ _ (search needs) refl (c .in-Continue-departing .ensures tt)
+returns-in-Continue-leave g c =
+    serves-accepted _ _ _ _ _ _ (ap requestOf (c .in-Leave .is)) refl _ _ (search needs) refl (c .in-Continue-leave .ensures tt)
 
-pub returns-in-Break-view : need.returns-in-Break-view
+pub returns-in-Break-look : need.returns-in-Break-look
 unfolding served
-returns-in-Break-view g c =
-    serves-refused _ _ _ _ _ _ (ap requestOf (c .in-Look .is)) refl _ _ (c .from-residual-in-Break-view .ensures .1) (c .in-Break-view .ensures tt)
+returns-in-Break-look g c =
+    serves-refused _ _ _ _ _ _ (ap requestOf (c .in-Look .is)) refl _ _ (c .from-residual-in-Break-look .ensures .1) (c .in-Break-look .ensures tt)
 
-pub returns-in-Continue-view : need.returns-in-Continue-view
+pub returns-in-Continue-look : need.returns-in-Continue-look
 unfolding served
-returns-in-Continue-view g c =
-    serves-accepted _ _ _ _ _ _ (ap requestOf (c .in-Look .is)) refl _ _ (search needs) refl (c .in-Continue-view .ensures tt)
+returns-in-Continue-look g c =
+    serves-accepted _ _ _ _ _ _ (ap requestOf (c .in-Look .is)) refl _ _ (search needs) refl (c .in-Continue-look .ensures tt)
 
-pub returns-in-Break-holding : need.returns-in-Break-holding
+pub returns-in-Break-publish : need.returns-in-Break-publish
 unfolding served
-returns-in-Break-holding g c =
-    serves-refused _ _ _ _ _ _ (ap requestOf (c .in-Publish .is)) refl _ _ (c .from-residual-in-Break-holding .ensures .1) (c .in-Break-holding .ensures tt)
+returns-in-Break-publish g c =
+    serves-refused _ _ _ _ _ _ (ap requestOf (c .in-Publish .is)) refl _ _ (c .from-residual-in-Break-publish .ensures .1) (c .in-Break-publish .ensures tt)
 
-pub returns-in-Continue-holding : need.returns-in-Continue-holding
+pub returns-in-Continue-publish : need.returns-in-Continue-publish
 unfolding served
-returns-in-Continue-holding g c =
-    serves-accepted _ _ _ _ _ _ (ap requestOf (c .in-Publish .is)) refl _ _ (search needs) refl (c .in-Continue-holding .ensures tt)
+returns-in-Continue-publish g c =
+    serves-accepted _ _ _ _ _ _ (ap requestOf (c .in-Publish .is)) refl _ _ (search needs) refl (c .in-Continue-publish .ensures tt)

@@ -1,5 +1,7 @@
 use native.Mathlib.Omega.{arith}
+use Rattle.lock.specs.States.{stateOf}
 use Rattle.line.proofs.CutLaws.{cuts}
+use Rattle.line.proofs.PauseLaws.{stops-left}
 use Rattle.line.proofs.StreamLaws.{begins, ends, stops, goes-on}
 use Rattle.line.proofs.stream.answer_all.Needs as need
 
@@ -10,7 +12,12 @@ pub returns-in-Some : need.returns-in-Some
 returns-in-Some g c =
     let t =
     stops (c .loop-turn .turn) _ (c .args .input .now) _ _ (c .loop-turn .inv .0) (c .loop-turn-test .taken) _ _ _ _ _ (c .advance-step .ensures .turns) _ (c .in-Some .is) in
-    record { turns = t; cut = cuts _ (c .args .input .now) _ _ (c .args .replies .now) _ _ _ _ _ t }
+    let b = stateOf (c .advance-step .last .gate) (c .advance-step .last .table) (g .S·Store .words (c .advance-step .last .store)) in
+    record {
+      turns = t;
+      cut = cuts (c .args .ended) (c .args .input .now) _ (c .args .place .now .at) (c .args .replies .now) (c .in-Some .pause) (c .advance-step .result .written) b (c .advance-step .last .place .at) (c .advance-step .last .replies) t;
+      left = stops-left (c .args .ended) (c .args .input .now) _ (c .args .place .now .at) (c .args .replies .now) (c .in-Some .pause) (c .advance-step .result .written) b (c .advance-step .last .place .at) (c .advance-step .last .replies) t;
+    }
 
 pub loop-turn-again : need.loop-turn-again
 loop-turn-again g c =
@@ -19,4 +26,4 @@ loop-turn-again g c =
 pub returns : need.returns
 returns g c =
     let t = ends (c .loop-turn .turn) _ (c .args .input .now) _ _ (c .loop-turn .inv .0) (omega arith) in
-    record { turns = t; cut = cuts _ (c .args .input .now) _ _ (c .args .replies .now) _ _ _ _ _ t }
+    record { turns = t; cut = cuts _ (c .args .input .now) _ _ (c .args .replies .now) _ _ _ _ _ t; left = stops-left _ (c .args .input .now) _ _ (c .args .replies .now) _ _ _ _ _ t }
