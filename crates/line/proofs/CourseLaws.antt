@@ -1,5 +1,6 @@
 -- Sessions: one message more, and more bytes behind. Assumes nothing.
 --     course-next      a session by its next message
+--     course-end       a session with no input left
 --     next-more        what the reader finds stays, whatever bytes come after a rest that does not wait for any
 --     next-fits        a message that was read lies in the rest
 --     place-by         the reader's place by what it finds
@@ -58,6 +59,10 @@ course-next b bs =
     enough (length bs) (suc (length bs)) b bs (omega arith) (omega arith)
     ∙ by-same (nextOf bs) b (λ b′. courseIn (length bs) b′ (drop (3 + sizeIn bs) bs)) (λ b′. course b′ (drop (3 + sizeIn bs) bs))
     (λ b′. enough (length bs) (length (drop (3 + sizeIn bs) bs)) b′ (drop (3 + sizeIn bs) bs) (shorter bs (length bs) (omega arith)) (omega arith))
+
+pub course-end : (b : BoxState) (bs : List ℕ) → length bs ≡ 0 → course b bs ≡ record { replies = []; box = b }
+course-end b bs h =
+    course-next b bs ∙ ap (λ x. courseBy x b (λ b′. course b′ (drop (3 + sizeIn bs) bs))) (next-none bs h)
 
 -- a header by its version, its rest's length and its size
 abbrev headerBy : (v l s : ℕ) → Result ℕ LineFault

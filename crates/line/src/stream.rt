@@ -46,7 +46,7 @@ pub fn answer_all<S: Store>(
 ) -> Progress
     ensures turns { λ r. ⌜ Turns (streamed (suc (length (now (input .entry)))) ended (now (input .entry)) (turnOf 0 (stateOf (now (gate .entry)) (now (table .entry)) (words (now (store .entry)))) (now (place .entry) .at) (now (replies .entry)))) (Some (r .pause)) (r .written) (stateOf (now (gate .exit)) (now (table .exit)) (words (now (store .exit)))) (now (place .exit) .at) (now (replies .exit)) ⌝ }
     ensures cut { λ r. ⌜ Cuts ended (now (input .entry)) (stateOf (now (gate .entry)) (now (table .entry)) (words (now (store .entry)))) (now (place .entry) .at) (r .pause) (r .written) (stateOf (now (gate .exit)) (now (table .exit)) (words (now (store .exit)))) (now (place .exit) .at) (now (replies .exit)) ⌝ }
-    ensures left { λ r. ⌜ Left ended (now (input .entry)) (now (place .entry) .at) (r .pause) (r .written) (now (place .exit) .at) (now (replies .exit)) ⌝ }
+    ensures left { λ r. ⌜ Left ended (now (input .entry)) (now (place .entry) .at) (now (replies .entry)) (r .pause) (r .written) (now (place .exit) .at) (now (replies .exit)) ⌝ }
 {
     let mut written = 0;
     for turn in 0..input.len() + 1 {

@@ -26,4 +26,9 @@ loop-turn-again g c =
 pub returns : need.returns
 returns g c =
     let t = ends (c .loop-turn .turn) _ (c .args .input .now) _ _ (c .loop-turn .inv .0) (omega arith) in
-    record { turns = t; cut = cuts _ (c .args .input .now) _ _ (c .args .replies .now) _ _ _ _ _ t; left = stops-left _ (c .args .input .now) _ _ (c .args .replies .now) _ _ _ _ _ t }
+    let b = stateOf (c .args .gate .now) (c .args .table .now) (g .S·Store .words (c .args .store .now)) in
+    record {
+      turns = t;
+      cut = cuts _ (c .args .input .now) b _ (c .args .replies .now) _ _ _ _ _ t;
+      left = stops-left _ (c .args .input .now) b _ (c .args .replies .now) _ _ _ _ _ t;
+    }
