@@ -4,12 +4,12 @@ use Prim.Native.Nat.{ℕ, zero, suc, _+_, _-_, _≤_, _<_}
 use mathlib.Core.Path.{_≡_, refl, ap, sym, subst, _∙_}
 use mathlib.Core.List.{List, [], _++_}
 use mathlib.Core.Bool.{Bool, true, false, cond, not, _&&_}
-use lib.Dec.{leb, ltb, eqb}
+use lib.Dec.{ltb, eqb}
 use lib.ListN.{length, getD, take, drop}
 use native.Mathlib.Omega.{arith}
 use borrow.Author.Tests.{ltb-true}
 use Rattle.std.proofs.shelf.Ways.{tells}
-use Rattle.std.proofs.shelf.Lists.{drop-at, length-drop, length-take-le, take-append-drop}
+use Rattle.std.proofs.shelf.Lists.{length-drop, take-append-drop}
 use Rattle.std.specs.declared.option.Option.{Option}
 use Rattle.std.specs.declared.option.Option.the-variants.{Some, None}
 use Rattle.std.specs.declared.result.Result.{Result}
@@ -18,7 +18,7 @@ use Rattle.lock.specs.States.{BoxState}
 use Rattle.line.specs.declared.fault.LineFault.{LineFault}
 use Rattle.line.specs.declared.fault.LineFault.the-variants.{ReplyRoom}
 use Rattle.line.specs.declared.stream.Pause.{Pause}
-use Rattle.line.specs.declared.stream.Pause.the-variants.{Input, Room, Done}
+use Rattle.line.specs.declared.stream.Pause.the-variants.{Room}
 use Rattle.line.specs.Messages.{Request, messageOf}
 use Rattle.line.specs.Reader.{afterHeader, headerOf, nextOf, placeBy, placeOf, readBody, sizeIn}
 use Rattle.line.specs.Sessions.{Answering, answered, answeredTo}

@@ -1,6 +1,6 @@
 ghost use mathlib.Core.Path.{_≡_};
-ghost use Prim.Native.Nat.{_+_, _*_, _≤_};
-ghost use Rattle.line.specs.Messages.{kindOf, messageOf, requestIn, requestOf, textSize, messageAt, Short};
+ghost use Prim.Native.Nat.{_+_, _*_};
+ghost use Rattle.line.specs.Messages.{kindOf, messageOf, requestIn, requestOf, messageAt, Short};
 use crate::fault::LineFault;
 use layout::Passage;
 use layout::SeatId;

@@ -1,5 +1,4 @@
-use mathlib.Core.Path.{_≡_, ap, _∙_}
-use lib.ListN.{length, take, drop}
+use mathlib.Core.Path.{ap, _∙_}
 use borrow.Author.Needs.{needs}
 use Rattle.std.proofs.shelf.Lists.{length-drop, length-take, take-rest}
 use Rattle.line.specs.Reader.{nextAt, nextOf, placeAt, placeOf}
