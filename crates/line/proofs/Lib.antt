@@ -6,3 +6,4 @@ pub mod StreamLaws
 pub mod CourseLaws
 pub mod CutLaws
 pub mod PauseLaws
+pub mod SessionFacts
