@@ -1,0 +1,9 @@
+pub mod Faults
+pub mod Messages
+pub mod Reader
+pub mod Replies
+pub mod Serving
+pub mod Sessions
+pub mod Streams
+pub mod Courses
+pub mod Pauses
