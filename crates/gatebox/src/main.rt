@@ -1,9 +1,4 @@
 // Serves a box of four ways in memory: messages on standard input, replies on standard output.
-ghost use mathlib.Core.Path.{_≡_};
-ghost use Prim.Native.Nat.{_≤_};
-ghost use lib.ListN.{drop};
-ghost use Rattle.std.specs.Of.Vec.{vec-items, vec-len};
-
 use layout::BoxRecord;
 use line::Cursor;
 use line::Pause;
@@ -35,7 +30,12 @@ fn run(rt: &LibcRuntime) -> Result<(), AnyError> {
 }
 
 // Reads block after block, and answers every whole message before it waits for more.
-fn serve<S: Store>(rt: &LibcRuntime, gate: &mut BoxRecord, store: &mut S, table: &mut [Seat]) -> Result<(), AnyError> {
+fn serve<S: Store>(
+    rt: &LibcRuntime,
+    gate: &mut BoxRecord,
+    store: &mut S,
+    table: &mut [Seat],
+) -> Result<(), AnyError> {
     let mut block = vec![in rt.alloc(); 0; BLOCK]?;
     let mut replies = vec![in rt.alloc(); 0; BLOCK]?;
     let mut input: Vec<u8> = Vec::new(rt.alloc());
@@ -43,7 +43,15 @@ fn serve<S: Store>(rt: &LibcRuntime, gate: &mut BoxRecord, store: &mut S, table:
         let count = rt.stdin().read(block.as_mut_slice())?;
         input.extend_from_slice(&block.as_slice()[0..count])?;
         let ended = count == 0;
-        let over = reply(rt, gate, store, table, &mut input, ended, replies.as_mut_slice())?;
+        let over = reply(
+            rt,
+            gate,
+            store,
+            table,
+            &mut input,
+            ended,
+            replies.as_mut_slice(),
+        )?;
         if over || ended {
             return Ok(());
         }
@@ -52,34 +60,50 @@ fn serve<S: Store>(rt: &LibcRuntime, gate: &mut BoxRecord, store: &mut S, table:
 }
 
 // Answers every whole message of the input, and keeps the rest. Answers whether the session is over.
-fn reply<S: Store>(rt: &LibcRuntime, gate: &mut BoxRecord, store: &mut S, table: &mut [Seat], input: &mut Vec<u8>, ended: bool, replies: &mut [u8]) -> Result<bool, AnyError> {
+fn reply<S: Store>(
+    rt: &LibcRuntime,
+    gate: &mut BoxRecord,
+    store: &mut S,
+    table: &mut [Seat],
+    input: &mut Vec<u8>,
+    ended: bool,
+    replies: &mut [u8],
+) -> Result<bool, AnyError> {
     let mut place = Cursor { at: 0 };
     for _ in 0..u64::MAX {
-        let progress = answer_all(gate, store, table, &mut place, input.as_slice(), ended, replies);
-        if progress.written <= replies.len() {
-            rt.stdout().write_all(&replies[0..progress.written])?;
-        }
-        match progress.pause {
+        match fill(
+            rt,
+            gate,
+            store,
+            table,
+            &mut place,
+            input.as_slice(),
+            ended,
+            replies,
+        )? {
             Pause::Room => {}
-            Pause::Input => {
-                keep_rest(input, place.at);
-                return Ok(false);
-            }
+            Pause::Input => break,
             Pause::Done => return Ok(true),
         }
     }
-    Ok(true)
+    let at = place.at.min(input.len());
+    *input = input.split_off(at)?;
+    Ok(false)
 }
 
-// Drops the bytes before a place.
-fn keep_rest(input: &mut Vec<u8>, from: usize)
-    ensures { λ _. ⌜ vec-items (now (input .exit)) ≡ drop from (vec-items (now (input .entry))) ⌝ }
-{
-    let size = input.len();
-    if from >= size {
-        input.clear();
-        return;
-    }
-    input.copy_within(from..size, 0);
-    input.truncate(size - from);
+// Answers as many messages as there is room for their replies, and writes these out.
+fn fill<S: Store>(
+    rt: &LibcRuntime,
+    gate: &mut BoxRecord,
+    store: &mut S,
+    table: &mut [Seat],
+    place: &mut Cursor,
+    input: &[u8],
+    ended: bool,
+    replies: &mut [u8],
+) -> Result<Pause, AnyError> {
+    let progress = answer_all(gate, store, table, place, input, ended, replies);
+    let written = progress.written;
+    rt.stdout().write_all(&replies[0..written])?;
+    Ok(progress.pause)
 }

@@ -5,12 +5,12 @@ use mathlib.Core.List.{[], _∷_}
 use Rattle.lock.specs.Calls.{cleared}
 use Rattle.lock.specs.Questions.{enterRefusal}
 use Rattle.seats.specs.Lawful.{lawful}
-use Rattle.steps.specs.Polls.{stepped}
+use Rattle.steps.specs.Polls.{stepped, polledSeat}
 use Rattle.line.specs.Messages.{messageOf}
 use Rattle.line.specs.Reader.{nextOf}
 use Rattle.line.specs.Serving.{served}
 use Rattle.line.specs.Courses.{course}
 
 pub known-session : course (cleared 4 [] []) (1 ∷ 0 ∷ 2 ∷ 1 ∷ 5 ∷ 1 ∷ 0 ∷ 5 ∷ 2 ∷ 5 ∷ 0 ∷ 1 ∷ 0 ∷ 1 ∷ 0 ∷ 5 ∷ 2 ∷ 5 ∷ 0 ∷ 1 ∷ 3 ∷ []) .replies ≡ 1 ∷ 0 ∷ 4 ∷ 1 ∷ 0 ∷ 0 ∷ 1 ∷ 1 ∷ 0 ∷ 3 ∷ 2 ∷ 0 ∷ 1 ∷ 1 ∷ 0 ∷ 6 ∷ 2 ∷ 9 ∷ 5 ∷ 0 ∷ 0 ∷ 0 ∷ []
-unfolding course nextOf messageOf served enterRefusal lawful stepped
+unfolding course nextOf messageOf served enterRefusal lawful stepped polledSeat
 known-session = refl
