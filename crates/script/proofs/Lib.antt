@@ -1,0 +1,2 @@
+pub mod WordLaws
+pub mod FieldLaws

@@ -1,0 +1,75 @@
+ghost use mathlib.Core.Path.{_≡_};
+ghost use mathlib.Core.Bool.{Bool};
+ghost use Prim.Native.Nat.{_≤_};
+ghost use lib.ListN.{length};
+ghost use Rattle.script.specs.Words.{indentedOf, isKind, leadingOf, restOf, sameOf, wordOf};
+
+// A kind of bytes.
+#[derive(Clone, Copy)]
+pub(crate) enum Kind {
+    // spaces, tabs and carriage returns
+    Blank,
+    // what a word consists of: neither blanks nor `#`
+    Letter,
+    // all but `#`
+    Note,
+}
+
+impl Kind {
+    // Whether a byte is of the kind.
+    fn has(self, byte: u8) -> bool
+        ensures { λ r. ⌜ r ≡ isKind self byte ⌝ }
+    {
+        let blank = byte == b' ' || byte == b'\t' || byte == b'\r';
+        match self {
+            Kind::Blank => blank,
+            Kind::Letter => !blank && byte != b'#',
+            Kind::Note => byte != b'#',
+        }
+    }
+}
+
+// How many bytes of a kind a text begins with.
+pub(crate) fn leading(text: &[u8], kind: Kind) -> usize
+    ensures value { λ r. ⌜ r ≡ leadingOf kind (now (text .entry)) ⌝ }
+    ensures bound { λ r. ⌜ r ≤ length (now (text .entry)) ⌝ }
+{
+    for at in 0..text.len() {
+        if !kind.has(text[at]) {
+            return at;
+        }
+    }
+    text.len()
+}
+
+// A text without the blanks that it begins with.
+pub(crate) fn indented(text: &[u8]) -> &[u8]
+    ensures { λ r. ⌜ now r ≡ indentedOf (now (text .entry)) ⌝ }
+{
+    let (_, rest) = text.split_at(leading(text, Kind::Blank));
+    rest
+}
+
+// The first word of a text, and the text behind it. The word is empty where the text has none.
+pub(crate) fn first_word(text: &[u8]) -> (&[u8], &[u8])
+    ensures word { λ r. ⌜ now (r .0) ≡ wordOf (now (text .entry)) ⌝ }
+    ensures rest { λ r. ⌜ now (r .1) ≡ restOf (now (text .entry)) ⌝ }
+{
+    let text = indented(text);
+    text.split_at(leading(text, Kind::Letter))
+}
+
+// Whether two texts are the same.
+pub(crate) fn same(a: &[u8], b: &[u8]) -> bool
+    ensures { λ r. ⌜ r ≡ sameOf (now (a .entry)) (now (b .entry)) ⌝ }
+{
+    if a.len() != b.len() {
+        return false;
+    }
+    for at in 0..a.len() {
+        if a[at] != b[at] {
+            return false;
+        }
+    }
+    true
+}
