@@ -1,15 +1,25 @@
 // Scripts of calls: reading one from text, and keeping account of what its calls got.
 
+pub mod event;
 pub mod fault;
 mod fields;
 pub mod line;
 mod lines;
+mod out;
 pub mod part;
+mod refusals;
+mod say;
 mod verb;
 mod words;
 
+pub use event::Event;
 pub use fault::LineFault;
 pub use line::Line;
 pub use lines::note_of;
 pub use lines::read_line;
+pub use out::Longest;
+pub use out::Out;
 pub use part::Part;
+pub use refusals::Refusals;
+pub use say::Said;
+pub use say::SaidDisplay;
