@@ -3,6 +3,7 @@
 --     leadingOf k t    how many bytes of the kind k the text t begins with
 --     wordOf t         the first word of t, empty where there is none
 --     restOf t         the text behind it
+--     rowOf t          the first row of t
 --     sameOf t u       whether two texts are the same
 use Prim.Native.Nat.{ℕ, _+_}
 use mathlib.Core.Bool.{Bool, true, false, cond, not, _&&_, _||_}
@@ -10,7 +11,7 @@ use mathlib.Core.List.{List, [], _∷_}
 use lib.Dec.{eqb}
 use lib.ListN.{length, take, drop}
 use Rattle.script.specs.declared.words.Kind.{Kind}
-use Rattle.script.specs.declared.words.Kind.the-variants.{Blank, Letter, Note}
+use Rattle.script.specs.declared.words.Kind.the-variants.{Blank, Letter, Note, Row}
 
 abbrev pub isBlank : ℕ → Bool
 isBlank b = eqb b 32 || (eqb b 9 || eqb b 13)
@@ -18,7 +19,8 @@ isBlank b = eqb b 32 || (eqb b 9 || eqb b 13)
 abbrev pub isKind : Kind → ℕ → Bool
 isKind Blank b = isBlank b
 isKind Letter b = not (isBlank b) && not (eqb b 35)
-isKind Note b = not (eqb b 35)
+isKind Note b = not (eqb b 35) && not (eqb b 13)
+isKind Row b = not (eqb b 10)
 
 abbrev pub leadingOf : Kind → List ℕ → ℕ
 leadingOf k [] = 0
@@ -33,6 +35,9 @@ wordOf t = take (leadingOf Letter (indentedOf t)) (indentedOf t)
 
 unfoldable pub restOf : List ℕ → List ℕ
 restOf t = drop (leadingOf Letter (indentedOf t)) (indentedOf t)
+
+abbrev pub rowOf : List ℕ → List ℕ
+rowOf t = take (leadingOf Row t) t
 
 abbrev pub sameOf : List ℕ → List ℕ → Bool
 sameOf [] [] = true

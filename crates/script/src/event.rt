@@ -33,16 +33,17 @@ impl Event {
     }
 }
 
+// The name of such events, as a count of them has it.
 pub impl fmt::Display for Event as EventDisplay {
     fn fmt<W: fmt::Write>(&self, f: &mut fmt::Formatter<W>) -> fmt::Result {
         f.pad(
             match self {
-                Event::King => "king",
-                Event::Queen => "queen",
-                Event::Pawn => "pawn",
-                Event::Promoted => "promoted pawn",
-                Event::HandedOver => "hand-over",
-                Event::QueenGaveUp => "queen who gave up",
+                Event::King => "kings",
+                Event::Queen => "queens",
+                Event::Pawn => "pawns",
+                Event::Promoted => "promoted pawns",
+                Event::HandedOver => "hand-overs",
+                Event::QueenGaveUp => "queens who gave up",
             },
         )
     }

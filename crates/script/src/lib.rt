@@ -9,6 +9,7 @@ mod out;
 pub mod part;
 mod refusals;
 mod say;
+pub mod scripts;
 mod verb;
 mod words;
 
@@ -23,3 +24,6 @@ pub use part::Part;
 pub use refusals::Refusals;
 pub use say::Said;
 pub use say::SaidDisplay;
+pub use scripts::Script;
+pub use scripts::ScriptFault;
+pub use scripts::read_script;

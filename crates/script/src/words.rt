@@ -2,7 +2,7 @@ ghost use mathlib.Core.Path.{_≡_};
 ghost use mathlib.Core.Bool.{Bool};
 ghost use Prim.Native.Nat.{_≤_};
 ghost use lib.ListN.{length};
-ghost use Rattle.script.specs.Words.{indentedOf, isKind, leadingOf, restOf, sameOf, wordOf};
+ghost use Rattle.script.specs.Words.{indentedOf, isKind, leadingOf, restOf, rowOf, sameOf, wordOf};
 
 // A kind of bytes.
 #[derive(Clone, Copy)]
@@ -11,8 +11,10 @@ pub(crate) enum Kind {
     Blank,
     // what a word consists of: neither blanks nor `#`
     Letter,
-    // all but `#`
+    // what a note consists of: all but `#` and carriage returns
     Note,
+    // what a row consists of: all but line feeds
+    Row,
 }
 
 impl Kind {
@@ -24,7 +26,8 @@ impl Kind {
         match self {
             Kind::Blank => blank,
             Kind::Letter => !blank && byte != b'#',
-            Kind::Note => byte != b'#',
+            Kind::Note => byte != b'#' && byte != b'\r',
+            Kind::Row => byte != b'\n',
         }
     }
 }
@@ -72,4 +75,12 @@ pub(crate) fn same(a: &[u8], b: &[u8]) -> bool
         }
     }
     true
+}
+
+// The first row of a text: what stands before its first line feed.
+pub(crate) fn first_row(text: &[u8]) -> &[u8]
+    ensures { λ r. ⌜ now r ≡ rowOf (now (text .entry)) ⌝ }
+{
+    let (row, _) = text.split_at(leading(text, Kind::Row));
+    row
 }
