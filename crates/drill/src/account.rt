@@ -1,6 +1,7 @@
 // The summary of a run.
 use crate::row::Note;
 use crate::row::NoteDisplay;
+use crate::row::note_of;
 use laws::Call;
 use laws::Got;
 use layout::Passage;
@@ -172,7 +173,7 @@ impl Account {
             let passage = published.passage.0;
             let note = Note {
                 lead: ": ",
-                text: script.note(text, published.at),
+                text: note_of(script, text, published.at),
             };
             println!(
                 rt,

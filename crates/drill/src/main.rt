@@ -10,6 +10,7 @@ use laws::Got;
 use laws::PerformFault;
 use laws::perform;
 use row::Report;
+use row::note_of;
 use script::Script;
 use script::read_script;
 use script::scripts::ScriptFaultDebug;
@@ -40,7 +41,11 @@ enum Detail {
 }
 
 fn main(rt: LibcRuntime) -> Result<(), AnyError> {
-    rt.report(run(&rt))
+    let Err(fault) = run(&rt) else {
+        return Ok(());
+    };
+    eprintln!(rt, "drill: {fault}")?;
+    Err(fault)
 }
 
 // Does what the words of the command line say.
@@ -65,9 +70,17 @@ fn word(words: &[String], at: usize) -> &str {
     }
 }
 
+// The bytes of a file.
+fn bytes_of(rt: &LibcRuntime, path: &str) -> Result<Vec<u8>, AnyError> {
+    match fs::read(rt, path) {
+        Ok(bytes) => Ok(bytes),
+        Err(fault) => Err(format!(rt.alloc(), "{path}: {fault}")?.into()),
+    }
+}
+
 // Plays a script on a box in memory.
 fn in_memory(rt: &LibcRuntime, path: &str) -> Result<(), AnyError> {
-    let text = fs::read(rt, path)?;
+    let text = bytes_of(rt, path)?;
     let text = text.as_slice();
     let script = read_script(rt.alloc(), text)?;
     let mut cells = vec![in rt.alloc(); 0; CELLS]?;
@@ -77,10 +90,10 @@ fn in_memory(rt: &LibcRuntime, path: &str) -> Result<(), AnyError> {
 
 // Plays a script on an image, and writes the image back.
 fn in_image(rt: &LibcRuntime, path: &str, image: &str) -> Result<(), AnyError> {
-    let text = fs::read(rt, path)?;
+    let text = bytes_of(rt, path)?;
     let text = text.as_slice();
     let script = read_script(rt.alloc(), text)?;
-    let mut bytes = fs::read(rt, image)?;
+    let mut bytes = bytes_of(rt, image)?;
     let got = match Image::open(bytes.as_mut_slice()) {
         Ok(mut store) => play(rt, &mut store, &script)?,
         Err(fault) => {
@@ -94,9 +107,13 @@ fn in_image(rt: &LibcRuntime, path: &str, image: &str) -> Result<(), AnyError> {
 
 // Plays a random day on a box in memory.
 fn random(rt: &LibcRuntime, words: &[String], detail: Detail) -> Result<(), AnyError> {
-    let ways = word(words, 2).parse::<u8>()?;
-    let seed = word(words, 3).parse::<u64>()?;
-    let count = word(words, 4).parse::<u32>()?;
+    let (Ok(ways), Ok(seed), Ok(count)) = (
+        word(words, 2).parse::<u8>(),
+        word(words, 3).parse::<u64>(),
+        word(words, 4).parse::<u32>(),
+    ) else {
+        return Err("WAYS, SEED and CALLS have to be numbers that fit 8, 64 and 32 bits".into());
+    };
     let mut day = Day::new(rt.alloc(), ways, seed)?;
     for _ in 0..count {
         day.add()?;
@@ -138,7 +155,7 @@ fn tell(
     for (at, (call, one)) in script.calls.as_slice().iter().zip(got).enumerate() {
         account.take(at, *call, *one)?;
         if matches!(detail, Detail::Lines) {
-            Report::new(at, *call, script.note(text, at), *one).print(rt)?;
+            Report::new(at, *call, note_of(script, text, at), *one).print(rt)?;
         }
     }
     account.tell(rt, script, text)

@@ -4,6 +4,8 @@ use laws::Got;
 use layout::Refusal;
 use script::Said;
 use script::SaidDisplay;
+use script::Script;
+use script::note_at;
 use seats::state::StateDisplay;
 use std::error::AnyError;
 use std::fmt;
@@ -48,6 +50,17 @@ impl<'a> Report<'a> {
             "{number}: {said}{note}: {answer}; {state}, height {height}, top {top}"
         )?;
         Ok(())
+    }
+}
+
+// The text of a call of a script, empty where it is no publish or has none.
+pub fn note_of<'a>(script: &Script, text: &'a [u8], at: usize) -> &'a [u8] {
+    let Some(Call::Publish { .. }) = script.calls.get(at) else {
+        return &text[0..0];
+    };
+    match script.starts.get(at) {
+        Some(start) => note_at(text, *start),
+        None => &text[0..0],
     }
 }
 

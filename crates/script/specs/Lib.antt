@@ -4,3 +4,4 @@ pub mod Lines
 pub mod Outs
 pub mod Events
 pub mod Counts
+pub mod Scripts

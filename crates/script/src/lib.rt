@@ -3,7 +3,7 @@
 pub mod event;
 pub mod fault;
 mod fields;
-pub mod line;
+mod line;
 mod lines;
 mod out;
 pub mod part;
@@ -15,9 +15,6 @@ mod words;
 
 pub use event::Event;
 pub use fault::LineFault;
-pub use line::Line;
-pub use lines::note_of;
-pub use lines::read_line;
 pub use out::Longest;
 pub use out::Out;
 pub use part::Part;
@@ -26,4 +23,5 @@ pub use say::Said;
 pub use say::SaidDisplay;
 pub use scripts::Script;
 pub use scripts::ScriptFault;
+pub use scripts::note_at;
 pub use scripts::read_script;

@@ -2,7 +2,7 @@ use laws::Call;
 
 // What a line of a script says.
 #[derive(Clone, Copy)]
-pub enum Line {
+pub(crate) enum Line {
     // nothing
     Blank,
     // how many ways the box has

@@ -23,7 +23,7 @@ pub(crate) struct Own {
 }
 
 // What a line of a script says, or what is wrong with it.
-pub fn read_line(line: &[u8]) -> Result<Line, LineFault>
+pub(crate) fn read_line(line: &[u8]) -> Result<Line, LineFault>
     ensures { λ r. ⌜ r ≡ lineOf (now (line .entry)) ⌝ }
 {
     let (name, rest) = first_word(line);
@@ -42,7 +42,7 @@ pub fn read_line(line: &[u8]) -> Result<Line, LineFault>
 }
 
 // The text of a publish: what stands behind the passage, up to a comment.
-pub fn note_of(line: &[u8]) -> &[u8]
+pub(crate) fn note_of(line: &[u8]) -> &[u8]
     ensures { λ r. ⌜ now r ≡ noteOf (now (line .entry)) ⌝ }
 {
     let (_, rest) = first_word(line);
