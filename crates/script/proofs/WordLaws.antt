@@ -1,5 +1,6 @@
 -- Texts, byte by byte. Assumes nothing.
 --     leading-more, leading-stop, leading-all    one byte more of the kind, another byte, the end of the text
+--     inked-more, inked-all                      one byte more, the end of the text
 --     word-split, rest-split                     a text cut behind its first word
 --     same-more, same-stop, same-lengths         one byte more, a byte that differs, lengths that differ
 use Prim.Native.Nat.{ℕ, suc, _+_, _<_, _≤_}
@@ -12,7 +13,7 @@ use lib.ListN.{length, getD, take, drop}
 use Rattle.std.proofs.shelf.Lists.{at-drop-more, at-drop-all}
 use Rattle.script.specs.declared.words.Kind.{Kind}
 use Rattle.script.specs.declared.words.Kind.the-variants.{Letter}
-use Rattle.script.specs.Words.{indentedOf, isKind, leadingOf, restOf, sameOf, wordOf}
+use Rattle.script.specs.Words.{indentedOf, inkedOf, isBlank, isKind, leadingOf, restOf, sameOf, wordOf}
 
 pub leading-more : (k : Kind) (t : List ℕ) (i : ℕ) → i < length t → isKind k (getD t i 0) ≡ true → leadingOf k t ≡ i + leadingOf k (drop i t) → leadingOf k t ≡ (i + 1) + leadingOf k (drop (i + 1) t)
 leading-more k t i l h e =
@@ -30,6 +31,30 @@ pub leading-all : (k : Kind) (t : List ℕ) (i : ℕ) → length t ≤ i → i �
 leading-all k t i l u e =
     let m : leadingOf k (drop i t) ≡ 0 = at-drop-all (leadingOf k) t i l in
     omega arith
+
+-- the end of a text's ink, where it was at e among the first i bytes, and is at k in the others
+abbrev pub inkEnd : ℕ → ℕ → ℕ → ℕ
+inkEnd e i k = cond (eqb k 0) e (i + k)
+
+ink-blank : (e i k : ℕ) → inkEnd e i (cond (eqb k 0) 0 (1 + k)) ≡ inkEnd e (i + 1) k
+ink-blank e i k = grind arith
+
+ink-byte : (e i k : ℕ) → inkEnd e i (1 + k) ≡ inkEnd (i + 1) (i + 1) k
+ink-byte e i k = grind arith
+
+ink-any : (x : Bool) (e i k : ℕ) → inkEnd e i (cond x (cond (eqb k 0) 0 (1 + k)) (1 + k)) ≡ inkEnd (cond x e (i + 1)) (i + 1) k
+ink-any true e i k = ink-blank e i k
+ink-any false e i k = ink-byte e i k
+
+module _ (t : List ℕ) (i e : ℕ) (l : i < length t) (h : inkedOf t ≡ inkEnd e i (inkedOf (drop i t))) where
+  ink-step : inkedOf (drop i t) ≡ cond (isBlank (getD t i 0)) (cond (eqb (inkedOf (drop (i + 1) t)) 0) 0 (1 + inkedOf (drop (i + 1) t))) (1 + inkedOf (drop (i + 1) t))
+  ink-step = at-drop-more inkedOf t i 0 l
+
+  pub inked-more : inkedOf t ≡ inkEnd (cond (isBlank (getD t i 0)) e (i + 1)) (i + 1) (inkedOf (drop (i + 1) t))
+  inked-more = h ∙ (ap (inkEnd e i) ink-step ∙ ink-any (isBlank (getD t i 0)) e i (inkedOf (drop (i + 1) t)))
+
+pub inked-all : (t : List ℕ) (i e : ℕ) → length t ≤ i → inkedOf t ≡ inkEnd e i (inkedOf (drop i t)) → e ≡ inkedOf t
+inked-all t i e l h = sym (h ∙ at-drop-all (λ x. inkEnd e i (inkedOf x)) t i l)
 
 pub word-split : (t x w : List ℕ) (n : ℕ) → x ≡ indentedOf t → n ≡ leadingOf Letter x → w ≡ take n x → w ≡ wordOf t
 unfolding wordOf

@@ -27,7 +27,7 @@ use Rattle.script.specs.declared.verb.Verb.{Verb}
 use Rattle.script.specs.declared.verb.Verb.the-variants as verb
 use Rattle.script.specs.declared.words.Kind.the-variants.{Note}
 use Rattle.script.specs.Fields.{fieldOf, onward, timesOf}
-use Rattle.script.specs.Words.{indentedOf, leadingOf, restOf, sameOf, wordOf}
+use Rattle.script.specs.Words.{indentedOf, inkedOf, leadingOf, restOf, sameOf, wordOf}
 
 abbrev pub verbOf : List ℕ → Option Verb
 verbOf w =
@@ -84,5 +84,13 @@ verbLine (Some verb.Publish) t = publishLine t
 abbrev pub lineOf : List ℕ → Result Line LineFault
 lineOf t = cond (eqb (length (wordOf t)) 0) (Ok line.Blank) (verbLine (verbOf (wordOf t)) (restOf t))
 
+-- a text up to a comment
+abbrev pub uncommented : List ℕ → List ℕ
+uncommented t = take (leadingOf Note t) t
+
+-- a text without the blanks that it ends with
+abbrev pub trimmed : List ℕ → List ℕ
+trimmed t = take (inkedOf t) t
+
 abbrev pub noteOf : List ℕ → List ℕ
-noteOf t = take (leadingOf Note (indentedOf (behindTwo (restOf t)))) (indentedOf (behindTwo (restOf t)))
+noteOf t = trimmed (uncommented (indentedOf (behindTwo (restOf t))))

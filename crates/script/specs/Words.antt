@@ -1,6 +1,7 @@
 -- The words of a text, as a list of bytes. Assumes nothing.
 --     isKind k b       whether the byte b is of the kind k
 --     leadingOf k t    how many bytes of the kind k the text t begins with
+--     inkedOf t        how many bytes t has up to its last one that is not blank
 --     wordOf t         the first word of t, empty where there is none
 --     restOf t         the text behind it
 --     rowOf t          the first row of t
@@ -25,6 +26,10 @@ isKind Row b = not (eqb b 10)
 abbrev pub leadingOf : Kind → List ℕ → ℕ
 leadingOf k [] = 0
 leadingOf k (b ∷ bs) = cond (isKind k b) (1 + leadingOf k bs) 0
+
+abbrev pub inkedOf : List ℕ → ℕ
+inkedOf [] = 0
+inkedOf (b ∷ bs) = cond (isBlank b) (cond (eqb (inkedOf bs) 0) 0 (1 + inkedOf bs)) (1 + inkedOf bs)
 
 -- a text without the blanks that it begins with
 abbrev pub indentedOf : List ℕ → List ℕ

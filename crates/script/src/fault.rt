@@ -1,3 +1,4 @@
+use crate::fields::most;
 use crate::part::Part;
 use crate::part::PartDebug;
 use crate::part::PartDisplay;
@@ -25,7 +26,10 @@ pub impl fmt::Display for LineFault as LineFaultDisplay {
             LineFault::Unknown => f.pad("no such call"),
             LineFault::Missing(part) => write!(f, "the {part} is missing"),
             LineFault::NoNumber(part) => write!(f, "the {part} is not a number"),
-            LineFault::TooLarge(part) => write!(f, "the {part} is too large"),
+            LineFault::TooLarge(part) => {
+                let most = most(*part);
+                write!(f, "the {part} is larger than {most}")
+            }
             LineFault::TooMany => f.pad("too many words"),
         }
     }

@@ -6,7 +6,7 @@ use crate::fault::LineFault;
 use crate::part::Part;
 
 // The largest number that is taken.
-fn most(part: Part) -> u16
+pub(crate) fn most(part: Part) -> u16
     ensures { λ r. ⌜ r ≡ mostOf part ⌝ }
 {
     match part {

@@ -10,6 +10,7 @@ use crate::verb::Verb;
 use crate::words::Kind;
 use crate::words::first_word;
 use crate::words::indented;
+use crate::words::inked;
 use crate::words::leading;
 use laws::Call;
 use layout::Passage;
@@ -41,13 +42,14 @@ pub(crate) fn read_line(line: &[u8]) -> Result<Line, LineFault>
     }
 }
 
-// The text of a publish: what stands behind the passage, up to a comment.
+// The text of a publish: what stands behind the passage, up to a comment and without blanks at its ends.
 pub(crate) fn note_of(line: &[u8]) -> &[u8]
     ensures { λ r. ⌜ now r ≡ noteOf (now (line .entry)) ⌝ }
 {
     let (_, rest) = first_word(line);
     let text = indented(behind_two(rest));
     let (note, _) = text.split_at(leading(text, Kind::Note));
+    let (note, _) = note.split_at(inked(note));
     note
 }
 

@@ -1,8 +1,8 @@
 ghost use mathlib.Core.Path.{_≡_};
-ghost use mathlib.Core.Bool.{Bool};
+ghost use mathlib.Core.Bool.{cond};
 ghost use Prim.Native.Nat.{_≤_};
 ghost use lib.ListN.{length};
-ghost use Rattle.script.specs.Words.{indentedOf, isKind, leadingOf, restOf, rowOf, sameOf, wordOf};
+ghost use Rattle.script.specs.Words.{indentedOf, inkedOf, isBlank, isKind, leadingOf, restOf, rowOf, sameOf, wordOf};
 
 // A kind of bytes.
 #[derive(Clone, Copy)]
@@ -43,6 +43,25 @@ pub(crate) fn leading(text: &[u8], kind: Kind) -> usize
         }
     }
     text.len()
+}
+
+// How many bytes a text has up to its last one that is not blank.
+pub(crate) fn inked(text: &[u8]) -> usize
+    ensures value { λ r. ⌜ r ≡ inkedOf (now (text .entry)) ⌝ }
+    ensures bound { λ r. ⌜ r ≤ length (now (text .entry)) ⌝ }
+{
+    let mut end = 0;
+    for at in 0..text.len() {
+        end = later(end, at + 1, text[at]);
+    }
+    end
+}
+
+// The end of the bytes that are not blank: the next one if this byte is not.
+fn later(end: usize, next: usize, byte: u8) -> usize
+    ensures { λ r. ⌜ r ≡ cond (isBlank byte) end next ⌝ }
+{
+    if Kind::Blank.has(byte) { end } else { next }
 }
 
 // A text without the blanks that it begins with.
