@@ -147,7 +147,7 @@ enum Place {
     MarkPromoted,
 }
 
-#[derive(Clone, Copy, Default)]
+#[derive(Clone, Copy, PartialEq, Eq, Default)]
 struct Seat {
     state: State,
     place: Place,
@@ -164,6 +164,44 @@ struct Seat {
 }
 
 impl Seat {
+    /// Whether the record is lawful.
+    fn lawful(&self) -> bool {
+        use Place::*;
+        if self.state == State::Away {
+            return *self == Seat::default();
+        }
+        let ranged = (1..=LAST_PASSAGE).contains(&self.passage)
+            && (1..=HEIGHTS).contains(&self.height)
+            && self.top <= HEIGHTS
+            && self.aim <= HEIGHTS
+            && usize::from(self.scan) < WAYS
+            && usize::from(self.kept_way) < WAYS
+            && self.kept_number <= LAST_PASSAGE
+            && self.noted.iter().all(|&number| number <= LAST_PASSAGE);
+        let release = matches!(
+            self.place,
+            ScanApply | CollectPawns | RaceToClose | ClearSyncOne | ReadSyncTwo | ClearSyncTwo | StrikeOut | StrikeSelf
+                | PromotePawn | ResetPawns | OpenGate | MarkPromoted
+        );
+        ranged
+            && match self.state {
+                State::Climbing => {
+                    self.height == self.top + 1
+                        && match self.place {
+                            ClaimApply | RaceForRole | AwaitPromotion | RecheckCount | AwaitKing => !self.gave_up,
+                            MarkApply => (self.height..=HEIGHTS).contains(&self.aim),
+                            CloseApply | AbortPawn | AbortQueen | AcceptGate | WithdrawApply => self.gave_up,
+                            _ => release && self.gave_up,
+                        }
+                }
+                State::Holding => self.height == HEIGHTS && self.top == HEIGHTS && self.place == Rest,
+                _ => {
+                    self.height <= self.top
+                        && (release || matches!(self.place, ReadRole | OpenAlone | HandOver | ReadApply | ClearApply))
+                }
+            }
+    }
+
     fn back_out(&mut self) {
         if self.top == 0 {
             *self = Seat::default();
@@ -413,7 +451,8 @@ impl Refusal {
     }
 }
 
-/// The box. Its records are lawful and its cells and seats are all there, so that these questions need no asking.
+/// The box. All cells and seats are there, and nobody else changes them, so that the records stay lawful: that question
+/// is asked only where the program is built with `--cfg asking`.
 struct GateBox {
     gates: [Gate; GATES],
     seats: [Seat; SEATS],
@@ -426,7 +465,11 @@ impl GateBox {
     }
 
     fn seat(&mut self, seat: u8) -> Result<&mut Seat, Refusal> {
-        self.seats.get_mut(usize::from(seat)).ok_or(Refusal::new(4, seat))
+        let found = self.seats.get_mut(usize::from(seat)).ok_or(Refusal::new(4, seat))?;
+        if cfg!(asking) && !found.lawful() {
+            return Err(Refusal::new(5, seat));
+        }
+        Ok(found)
     }
 
     /// The seat, if the passage is its own and its state is fit.
