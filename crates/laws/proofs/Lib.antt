@@ -3,5 +3,8 @@ pub mod RankLaws
 pub mod RunLaws
 pub mod LawfulLaws
 pub mod LawfulSteps
+pub mod Frames
+pub mod Geometry
+pub mod PawnLaws
 pub mod Accepted
 pub mod Prompt
