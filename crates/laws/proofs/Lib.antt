@@ -6,5 +6,7 @@ pub mod LawfulSteps
 pub mod Frames
 pub mod Geometry
 pub mod PawnLaws
+pub mod Phases
+pub mod TwoInside
 pub mod Accepted
 pub mod Prompt
