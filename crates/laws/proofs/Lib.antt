@@ -8,5 +8,6 @@ pub mod Geometry
 pub mod PawnLaws
 pub mod Phases
 pub mod TwoInside
+pub mod Moves
 pub mod Accepted
 pub mod Prompt
