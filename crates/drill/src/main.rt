@@ -1,4 +1,6 @@
 // Plays a script of calls, or a random day, on a box, and tells what each call got and how it all went.
+#![tactic(auto)]
+
 mod account;
 mod day;
 mod dice;

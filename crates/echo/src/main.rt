@@ -1,4 +1,6 @@
 // Writes back what it reads, block by block: the reading and writing of `gatebox`, and no box.
+#![tactic(auto)]
+
 use std::io::{Read, Write};
 
 // How many bytes are read at once.

@@ -1,8 +1,7 @@
 -- The moves of one gate: each step that is taken at it keeps what its phase says. Assumes nothing.
-use Rattle.std.proofs.Common.{◌≡◌, ℕ, ◌+◌, ◌-◌, ◌<◌, ◌≤◌, cond, eqb, ◌≢◌, ◌⊎◌, refl, inl, inr, arith}
-use native.Mathlib.Decide.{ℕ_discrete}
-use Rattle.gate.proofs.Phases.{Stand, Marks, Cells, Phase, idle, solo, pair, clean, free, drain, prom, Pawnish, WayOk, CellsOk}
-use Rattle.gate.proofs.Gates.{to, aiming, scanning, keeping, still, closing, applies, plays, lists, counts, syncs_one, syncs_two, at, InPair, promoted_of, Noted, Fresh, Height, Calm}
+use Rattle.std.proofs.Common.{◌≡◌, ℕ, ◌+◌, ◌-◌, ◌≤◌, ◌≢◌, ◌⊎◌, arith}
+use Rattle.gate.proofs.Phases.{Stand, Marks, Cells, Phase, idle, solo, pair, clean, free, drain, prom, WayOk, CellsOk}
+use Rattle.gate.proofs.Gates.{to, aiming, scanning, keeping, still, closing, applies, plays, lists, syncs_one, syncs_two, Height, Calm}
 
 -- a pawn, or a newcomer, that gives up
 pawn_quits : (h H : ℕ) (f : Phase) (c : Cells) (i : ℕ) (v : Stand) (x : Marks) → v.stage ≡ 1 → 5 ≤ v.place → v.place ≤ 8 → WayOk h H f c i v x → WayOk h H f c i (to 19 v) x

@@ -1,11 +1,11 @@
 -- The moves of one gate that turn its phase, or change the marks of other ways. Each is possible in one phase or two.
 -- Assumes nothing.
 --     struck, raised, told, collected  the marks of another way afterwards
-use Rattle.std.proofs.Common.{◌≡◌, ℕ, ◌+◌, ◌-◌, ◌<◌, ◌≤◌, Bool, true, false, cond, eqb, ◌≢◌, ◌⊎◌, sym, refl, inl, inr, arith}
+use Rattle.std.proofs.Common.{◌≡◌, ℕ, ◌+◌, ◌<◌, ◌≤◌, cond, eqb, ◌≢◌, ◌⊎◌, sym, inl, inr, arith}
 use native.Mathlib.Decide.{ℕ_discrete}
 use Rattle.std.proofs.lemmas.Bool.{cond_both, eqb-true, eqb-false}
 use Rattle.gate.proofs.Phases.{Stand, Marks, Cells, Phase, idle, solo, pair, clean, free, drain, prom, Pawnish, WayOk, CellsOk}
-use Rattle.gate.proofs.Gates.{to, aiming, scanning, keeping, still, closing, applies, plays, lists, counts, syncs_one, syncs_two, at, InPair, promoted_of, Noted, Fresh, Height, Turn, Turns, Nothing}
+use Rattle.gate.proofs.Gates.{to, aiming, scanning, keeping, closing, applies, plays, lists, counts, syncs_one, InPair, promoted_of, Fresh, Height, Turn, Turns, Nothing}
 
 -- way n struck out of the pawn word
 abbrev pub struck : ℕ → ℕ → Marks → Marks

@@ -1,4 +1,6 @@
 // Serves a box of four ways in memory: messages on standard input, replies on standard output.
+#![tactic(auto)]
+
 use anyhow::anyhow;
 use layout::BoxRecord;
 use line::{Cursor, Pause, answer_all};

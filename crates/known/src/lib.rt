@@ -1,4 +1,6 @@
 // Known values of the definitions that the contracts cite, computed by hand.
+#![tactic(auto)]
+
 ghost use Rattle.std.specs.Prelude.{◌≡◌, ◌*◌, replicate};
 ghost use Rattle.known.specs.Known.{Known, all_after};
 

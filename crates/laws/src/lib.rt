@@ -1,4 +1,5 @@
 // Runs of calls on one box: a box is opened, and a list of calls is performed on it.
+#![tactic(auto)]
 
 pub mod call;
 mod make;

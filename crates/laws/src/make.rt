@@ -17,7 +17,7 @@ pub(crate) fn make<S: Store>(
     table: &mut [Seat],
     call: Call,
 ) -> Got
-    ensures { Gets call (state_of gate.old table.old (words store.old)) result (state_of gate.new table.new (words store.new)) }
+    ensures { Gets call (state_of gate.old table.old (S.words store.old)) result (state_of gate.new table.new (S.words store.new)) }
 {
     let answer = note(dispatch(gate, store, table, call));
     let seat = record_of(table, named(call));
@@ -31,7 +31,7 @@ fn dispatch<S: Store>(
     table: &mut [Seat],
     call: Call,
 ) -> Result<u16, BoxFault>
-    ensures { Settles (performed_open call (state_of gate.old table.old (words store.old))) (told result) (state_of gate.new table.new (words store.new)) }
+    ensures { Settles (performed_open call (state_of gate.old table.old (S.words store.old))) (told result) (state_of gate.new table.new (S.words store.new)) }
 {
     match call {
         Call::Apply { seat } => Ok(apply(gate, store, table, seat)?.0),

@@ -43,7 +43,7 @@ pub fn perform<S: Store>(
     table: &mut [Seat],
     calls: &[Call],
 ) -> Result<Vec<Got>, PerformFault>
-    ensures { MatchResult result (λ v. Performs ways table.old (words store.old) calls.now v.items table.new (words store.new)) (λ e. Unperformed ways table.old (words store.old) e table.new (words store.new)) }
+    ensures { MatchResult result (λ v. Performs ways table.old (S.words store.old) calls.now v.items table.new (S.words store.new)) (λ e. Unperformed ways table.old (S.words store.old) e table.new (S.words store.new)) }
 {
     let mut got = Vec::with_capacity(heap, calls.len())?;
     let mut gate = open(ways, store, table)?;

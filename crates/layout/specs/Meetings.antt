@@ -2,7 +2,7 @@
 --     meeting w p h     the gate that seat p meets at height h, by its first cell, with the seat's way
 --     meeting_of w p h  the same, if there is such a height
 --     Inside m          the gate's cells lie among the box's, and the way is one of the gate's
-use Rattle.std.specs.Prelude.{ℕ, ◌+◌, ◌*◌, ◌<◌, ◌≤◌, cond, ◌&&◌, Some, None, Option, nat_le, nat_lt}
+use Rattle.std.specs.Prelude.{ℕ, ◌+◌, ◌<◌, ◌≤◌, cond, ◌&&◌, Some, None, Option, nat_le, nat_lt}
 use Rattle.layout.specs.declared.path.Meeting.{Meeting}
 use Rattle.layout.specs.Gates.{gate_of, way_of, gate_cells, cells_of, cell_of}
 

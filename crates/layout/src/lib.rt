@@ -1,4 +1,5 @@
 // The box's layout: seats, ways and gates, the box record, and why a call is refused.
+#![tactic(auto)]
 
 mod boxes;
 pub mod fault;

@@ -1,4 +1,5 @@
 // The message line: reads messages from bytes, has the box serve them, and writes the replies as bytes.
+#![tactic(auto)]
 
 pub mod fault;
 mod messages;

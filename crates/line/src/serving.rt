@@ -19,7 +19,7 @@ pub(crate) fn serve<'a, S: Store>(
     message: Message<'a>,
 ) -> Result<Reply<'a>, LineFault>
     requires { text_size message ≤ 80 }
-    ensures { Serves (request_of message.entry) (served (state_of gate.old table.old (words store.old)) (request_of message.entry)) result (state_of gate.new table.new (words store.new)) }
+    ensures { Serves (request_of message.entry) (served (state_of gate.old table.old (S.words store.old)) (request_of message.entry)) result (state_of gate.new table.new (S.words store.new)) }
 {
     match message {
         Message::Apply { seat } => Ok(Reply::Applied(apply(gate, store, table, seat)?)),

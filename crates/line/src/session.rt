@@ -33,7 +33,7 @@ pub fn answer<S: Store>(
     input: &[u8],
     reply: &mut [u8],
 ) -> Result<Answered, LineFault>
-    ensures { Answers (answered (state_of gate.old table.old (words store.old)) place.old.at input.now reply.old) result (state_of gate.new table.new (words store.new)) place.new.at reply.new }
+    ensures { Answers (answered (state_of gate.old table.old (S.words store.old)) place.old.at input.now reply.old) result (state_of gate.new table.new (S.words store.new)) place.new.at reply.new }
 {
     if reply.len() < 86 {
         return Err(LineFault::ReplyRoom);
@@ -61,7 +61,7 @@ fn respond<S: Store>(
 ) -> usize
     requires short { text_size message ≤ 80 }
     requires room { 86 ≤ length reply.old }
-    ensures { Responds (request_of message.entry) (served (state_of gate.old table.old (words store.old)) (request_of message.entry)) reply.old result (state_of gate.new table.new (words store.new)) reply.new }
+    ensures { Responds (request_of message.entry) (served (state_of gate.old table.old (S.words store.old)) (request_of message.entry)) reply.old result (state_of gate.new table.new (S.words store.new)) reply.new }
 {
     let kind = message.kind();
     match serve(gate, store, table, message) {

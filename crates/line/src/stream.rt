@@ -40,8 +40,8 @@ pub fn answer_all<S: Store>(
     ended: bool,
     replies: &mut [u8],
 ) -> Progress
-    ensures turns { Turns (streamed (suc (length input.now)) ended input.now (turn_of 0 (state_of gate.old table.old (words store.old)) place.old.at replies.old)) (Some result.pause) result.written (state_of gate.new table.new (words store.new)) place.new.at replies.new }
-    ensures cut { Cuts ended input.now (state_of gate.old table.old (words store.old)) place.old.at result.pause result.written (state_of gate.new table.new (words store.new)) place.new.at replies.new }
+    ensures turns { Turns (streamed (suc (length input.now)) ended input.now (turn_of 0 (state_of gate.old table.old (S.words store.old)) place.old.at replies.old)) (Some result.pause) result.written (state_of gate.new table.new (S.words store.new)) place.new.at replies.new }
+    ensures cut { Cuts ended input.now (state_of gate.old table.old (S.words store.old)) place.old.at result.pause result.written (state_of gate.new table.new (S.words store.new)) place.new.at replies.new }
     ensures left { Left ended input.now place.old.at replies.old result.pause result.written place.new.at replies.new }
 {
     let mut written = 0;
@@ -77,7 +77,7 @@ fn advance<S: Store>(
     written: usize,
 ) -> Step
     requires { written ≤ length replies.old }
-    ensures turns { Turns (turned ended input.now (turn_of written (state_of gate.old table.old (words store.old)) place.old.at replies.old)) result.pause result.written (state_of gate.new table.new (words store.new)) place.new.at replies.new }
+    ensures turns { Turns (turned ended input.now (turn_of written (state_of gate.old table.old (S.words store.old)) place.old.at replies.old)) result.pause result.written (state_of gate.new table.new (S.words store.new)) place.new.at replies.new }
     ensures within { result.written ≤ length replies.new }
 {
     if held_back(place, input, ended) {

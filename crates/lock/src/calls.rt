@@ -23,7 +23,7 @@ pub fn apply<S: Store>(
     table: &mut [Seat],
     seat: SeatId,
 ) -> Result<Passage, BoxFault>
-    ensures { Settles (applied (state_of gate.old table.old (words store.old)) seat.0) (told_as (λ n. n.0) result) (state_of gate.new table.new (words store.new)) }
+    ensures { Settles (applied (state_of gate.old table.old (S.words store.old)) seat.0) (told_as (λ n. n.0) result) (state_of gate.new table.new (S.words store.new)) }
 {
     let found = enter(gate, store, table, seat)?;
     if !matches!(found.state, State::Away) {
@@ -44,7 +44,7 @@ pub fn give_up<S: Store>(
     seat: SeatId,
     passage: Passage,
 ) -> Result<State, BoxFault>
-    ensures { Settles (gave_up_outcome (state_of gate.old table.old (words store.old)) seat.0 passage.0) (told_as state_number result) (state_of gate.new table.new (words store.new)) }
+    ensures { Settles (gave_up_outcome (state_of gate.old table.old (S.words store.old)) seat.0 passage.0) (told_as state_number result) (state_of gate.new table.new (S.words store.new)) }
 {
     let found = enter_own(gate, store, table, seat, passage)?;
     if !matches!(found.state, State::Climbing) || found.gave_up {
@@ -63,7 +63,7 @@ pub fn leave<S: Store>(
     seat: SeatId,
     passage: Passage,
 ) -> Result<State, BoxFault>
-    ensures { Settles (left (state_of gate.old table.old (words store.old)) seat.0 passage.0) (told_as state_number result) (state_of gate.new table.new (words store.new)) }
+    ensures { Settles (left (state_of gate.old table.old (S.words store.old)) seat.0 passage.0) (told_as state_number result) (state_of gate.new table.new (S.words store.new)) }
 {
     let found = enter_own(gate, store, table, seat, passage)?;
     if !matches!(found.state, State::Holding) {
@@ -86,7 +86,7 @@ pub fn publish<S: Store>(
     seat: SeatId,
     passage: Passage,
 ) -> Result<State, BoxFault>
-    ensures { Settles (published (state_of gate.old table.old (words store.old)) seat.0 passage.0) (told_as state_number result) (state_of gate.new table.new (words store.new)) }
+    ensures { Settles (published (state_of gate.old table.old (S.words store.old)) seat.0 passage.0) (told_as state_number result) (state_of gate.new table.new (S.words store.new)) }
 {
     let found = enter_own(gate, store, table, seat, passage)?;
     if !matches!(found.state, State::Holding) {
@@ -102,7 +102,7 @@ pub fn look<S: Store>(
     table: &mut [Seat],
     seat: SeatId,
 ) -> Result<View, BoxFault>
-    ensures { Settles (looked (state_of gate.old table.old (words store.old)) seat.0) (told_as (λ v. (state_number v.state, v.top)) result) (state_of gate.new table.new (words store.new)) }
+    ensures { Settles (looked (state_of gate.old table.old (S.words store.old)) seat.0) (told_as (λ v. (state_number v.state, v.top)) result) (state_of gate.new table.new (S.words store.new)) }
 {
     let found = enter(gate, store, table, seat)?;
     Ok(View {

@@ -1,4 +1,5 @@
 // The box: one exclusive right among the seats of a table, over a store of cells. Every call is refused or does one step.
+#![tactic(auto)]
 
 mod calls;
 mod opening;

@@ -9,7 +9,7 @@ use store::Store;
 
 // Opens a box: its cells become 0, its seats away, and its first passage will have the number 1.
 pub fn open<S: Store>(ways: u8, store: &mut S, table: &mut [Seat]) -> Result<BoxRecord, BoxFault>
-    ensures { MatchResult result (λ b. Opens ways table.old (words store.old) b table.new (words store.new)) (λ e. Unopened ways table.old (words store.old) (refusal_of e) table.new (words store.new)) }
+    ensures { MatchResult result (λ b. Opens ways table.old (S.words store.old) b table.new (S.words store.new)) (λ e. Unopened ways table.old (S.words store.old) (refusal_of e) table.new (S.words store.new)) }
 {
     let gate = BoxRecord::open(ways)?;
     let nobody = SeatId(0);
@@ -26,9 +26,9 @@ pub fn open<S: Store>(ways: u8, store: &mut S, table: &mut [Seat]) -> Result<Box
 
 // Puts 0 into the first cells.
 fn clear_cells<S: Store>(store: &mut S, count: usize) -> Result<(), BoxFault>
-    requires { count ≤ length (words store.old) }
+    requires { count ≤ length (S.words store.old) }
     ensures answer { result ≡ Ok tt }
-    ensures after { words store.new ≡ replicate count 0 ++ drop count (words store.old) }
+    ensures after { S.words store.new ≡ replicate count 0 ++ drop count (S.words store.old) }
 {
     for pos in 0..count {
         store.write(pos, 0)?;

@@ -18,7 +18,7 @@ pub fn poll<S: Store>(
     passage: Passage,
     coin: u8,
 ) -> Result<State, BoxFault>
-    ensures { Settles (polled (state_of gate.old table.old (words store.old)) seat.0 passage.0 coin) (told_as state_number result) (state_of gate.new table.new (words store.new)) }
+    ensures { Settles (polled (state_of gate.old table.old (S.words store.old)) seat.0 passage.0 coin) (told_as state_number result) (state_of gate.new table.new (S.words store.new)) }
 {
     let path = reach(gate, table.len(), store.size(), seat)?;
     poll_seat(store, &mut table[usize::from(seat.0)], path, passage, coin)

@@ -33,7 +33,7 @@ pub(crate) fn enter<S: Store>(
     table: &[Seat],
     seat: SeatId,
 ) -> Result<Seat, BoxFault>
-    ensures { MatchResult result (λ s. (enter_refusal (state_of gate.now table.now (words store.now)) seat.0 ≡ None) × (s ≡ seat_at (state_of gate.now table.now (words store.now)) seat.0) × (seat.0 < length table.now)) (λ e. enter_refusal (state_of gate.now table.now (words store.now)) seat.0 ≡ Some (refusal_of e)) }
+    ensures { MatchResult result (λ s. (enter_refusal (state_of gate.now table.now (S.words store.now)) seat.0 ≡ None) × (s ≡ seat_at (state_of gate.now table.now (S.words store.now)) seat.0) × (seat.0 < length table.now)) (λ e. enter_refusal (state_of gate.now table.now (S.words store.now)) seat.0 ≡ Some (refusal_of e)) }
 {
     reach(gate, table.len(), store.size(), seat)?;
     let found = table[usize::from(seat.0)];
@@ -51,7 +51,7 @@ pub(crate) fn enter_own<S: Store>(
     seat: SeatId,
     passage: Passage,
 ) -> Result<Seat, BoxFault>
-    ensures { MatchResult result (λ s. (own_refusal (state_of gate.now table.now (words store.now)) seat.0 passage.0 ≡ None) × (s ≡ seat_at (state_of gate.now table.now (words store.now)) seat.0) × (seat.0 < length table.now)) (λ e. own_refusal (state_of gate.now table.now (words store.now)) seat.0 passage.0 ≡ Some (refusal_of e)) }
+    ensures { MatchResult result (λ s. (own_refusal (state_of gate.now table.now (S.words store.now)) seat.0 passage.0 ≡ None) × (s ≡ seat_at (state_of gate.now table.now (S.words store.now)) seat.0) × (seat.0 < length table.now)) (λ e. own_refusal (state_of gate.now table.now (S.words store.now)) seat.0 passage.0 ≡ Some (refusal_of e)) }
 {
     let found = enter(gate, store, table, seat)?;
     if matches!(found.state, State::Away) || found.passage.0 != passage.0 {

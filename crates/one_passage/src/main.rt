@@ -1,4 +1,6 @@
 // Takes one seat through a whole passage, with publish, for 2, 3 and 4 ways, over each kind of store, and prints it.
+#![tactic(auto)]
+
 use anyhow::anyhow;
 use known::known_values;
 use layout::{BoxFault, BoxRecord, Passage, SeatId};

@@ -1,4 +1,6 @@
 // Meets every refusal of the store and of the box, and prints what each says and whether anything changed.
+#![tactic(auto)]
+
 mod bed;
 mod records;
 mod stores;

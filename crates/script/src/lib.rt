@@ -1,4 +1,5 @@
 // Scripts of calls: reading one from text, and keeping account of what its calls got.
+#![tactic(auto)]
 
 pub mod event;
 pub mod fault;

@@ -1,4 +1,5 @@
 // The seat record: its states and places, when it is lawful, and which gates it keeps.
+#![tactic(auto)]
 
 mod lawful;
 pub mod place;

@@ -1,6 +1,8 @@
 // Plays written sessions: each is served by a box of its own, and its replies are printed.
 //
 // A line of the input is a comment (#), which is printed, or the bytes of a message in hex. An empty line ends a session.
+#![tactic(auto)]
+
 mod hex;
 mod spent;
 

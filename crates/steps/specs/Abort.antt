@@ -4,7 +4,7 @@
 --     abort_queen_step 26     tell the king that the queen is gone, unless he has handed over already
 --     accept_gate_step 27     the gate was handed over: it is won
 --     withdraw_apply_step 32  leave one's way, and back out
-use Rattle.std.specs.Prelude.{ℕ, Bool, cond, List, Some, None, Option}
+use Rattle.std.specs.Prelude.{ℕ, cond, List, Some, None, Option}
 use Rattle.layout.specs.declared.path.Meeting.{Meeting}
 use Rattle.layout.specs.Gates.{heights_of}
 use Rattle.seats.specs.declared.seat.Seat.{Seat}

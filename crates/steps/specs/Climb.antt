@@ -5,7 +5,7 @@
 --     recheck_count_step 8    a pawn looks whether the gate is still taken
 --     await_king_step 14      the queen waits for the king's word in Sync1
 --     mark_apply_step 16      the gate is won
-use Rattle.std.specs.Prelude.{ℕ, zero, suc, Bool, cond, List}
+use Rattle.std.specs.Prelude.{ℕ, cond, List}
 use Rattle.layout.specs.declared.path.Meeting.{Meeting}
 use Rattle.layout.specs.Gates.{heights_of}
 use Rattle.seats.specs.declared.seat.Seat.{Seat}

@@ -1,7 +1,7 @@
 -- The places at which the pawns that wait are registered. Assumes nothing.
 --     scan_apply_step 52     note the passage that waits at one way after the other
 --     collect_pawns_step 55  register the noted passages in the pawn word
-use Rattle.std.specs.Prelude.{ℕ, ◌+◌, ◌/◌, ◌%◌, Bool, cond, ◌&&◌, List, ◌==◌, slice_set}
+use Rattle.std.specs.Prelude.{ℕ, ◌+◌, ◌/◌, ◌%◌, cond, ◌&&◌, List, ◌==◌, slice_set}
 use Rattle.layout.specs.declared.path.Meeting.{Meeting}
 use Rattle.seats.specs.declared.seat.Seat.{Seat}
 use Rattle.seats.specs.declared.place.Place.TheVariants.{CollectPawns, RaceToClose}

@@ -10,7 +10,7 @@
 --     swapped ws m c x y  the cells with y in a cell of the gate if it held x
 --     closes s            the place at which the seat withdraws its application: 48 when leaving, 32 when climbing
 --     captured m s        the seat that has won the gates up to its aim
-use Rattle.std.specs.Prelude.{◌≡◌, ℕ, ◌+◌, ◌<◌, ◌≤◌, Bool, cond, List, length, Ok, Err, Result, ◌==◌, slice_set}
+use Rattle.std.specs.Prelude.{◌≡◌, ℕ, ◌+◌, ◌<◌, ◌≤◌, Bool, cond, List, Ok, Err, Result, ◌==◌, slice_set}
 use Rattle.store.specs.Words.{held}
 use Rattle.layout.specs.declared.fault.Refusal.{Refusal}
 use Rattle.layout.specs.declared.path.Meeting.{Meeting}

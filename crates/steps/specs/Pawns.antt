@@ -4,7 +4,7 @@
 --     abort_of w i n            the word after way i gave up as passage n, or none if it is PRO
 --     promote_word, promote_of  the word after a promotion, and who is promoted with which number
 --     remove_word w i           the word after way i is struck out
-use Rattle.std.specs.Prelude.{ℕ, ◌+◌, ◌*◌, ◌/◌, ◌%◌, ◌≤◌, Bool, true, false, cond, ◌&&◌, ◌||◌, List, [], ◌∷◌, Some, None, Option, ◌==◌, nat_lt, slice_index, slice_index_or, slice_set}
+use Rattle.std.specs.Prelude.{ℕ, ◌+◌, ◌*◌, ◌/◌, ◌%◌, ◌≤◌, Bool, cond, ◌&&◌, ◌||◌, List, [], ◌∷◌, Some, None, Option, ◌==◌, nat_lt, slice_index, slice_index_or, slice_set}
 use Rattle.layout.specs.declared.ids.WayId.{WayId}
 use Rattle.layout.specs.declared.ids.Passage.{Passage}
 use Rattle.steps.specs.Codes.{pair}

@@ -3,7 +3,7 @@
 --     promote_pawn_step 65                    the lowest way that is REG becomes PRO
 --     reset_pawns_step 67, open_gate_step 68  nobody waits: the gate opens
 --     mark_promoted_step 70                   tell the promoted pawn, if its Apply still has that very passage
-use Rattle.std.specs.Prelude.{ℕ, Bool, cond, List, Some, None, Option}
+use Rattle.std.specs.Prelude.{ℕ, List, Some, None, Option}
 use Rattle.layout.specs.declared.path.Meeting.{Meeting}
 use Rattle.layout.specs.declared.ids.WayId.{WayId}
 use Rattle.layout.specs.declared.ids.Passage.{Passage}

@@ -4,7 +4,7 @@
 --     hand_over_step 37    a king gives the queen his gates from here up to top, unless she has gone
 --     read_apply_step 48   keep the number in one's Apply
 --     clear_apply_step 49  leave one's way; then the next height, or away after the last
-use Rattle.std.specs.Prelude.{ℕ, ◌+◌, ◌/◌, ◌%◌, Bool, cond, ◌||◌, List, ◌==◌}
+use Rattle.std.specs.Prelude.{ℕ, ◌+◌, ◌/◌, ◌%◌, cond, ◌||◌, List, ◌==◌}
 use Rattle.layout.specs.declared.path.Meeting.{Meeting}
 use Rattle.seats.specs.declared.seat.Seat.{Seat}
 use Rattle.seats.specs.declared.place.Place.TheVariants.{ReadRole, OpenAlone, HandOver, ReadApply, ClearApply, ScanApply, RaceToClose, StrikeSelf}

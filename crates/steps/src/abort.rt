@@ -21,8 +21,8 @@ pub(crate) fn close_apply<S: Store>(
     seat: &mut Seat,
     at: Meeting,
 ) -> Result<(), BoxFault>
-    requires room { Room at (length (words store.old)) }
-    ensures { Does (close_apply_step at seat.old (words store.old)) (told result) (words store.new) seat.new }
+    requires room { Room at (length (S.words store.old)) }
+    ensures { Does (close_apply_step at seat.old (S.words store.old)) (told result) (S.words store.new) seat.new }
 {
     let own = seat.passage;
     swap(
@@ -46,10 +46,10 @@ pub(crate) fn abort_pawn<S: Store>(
     seat: &mut Seat,
     at: Meeting,
 ) -> Result<(), BoxFault>
-    requires room { Room at (length (words store.old)) }
+    requires room { Room at (length (S.words store.old)) }
     requires passage { seat.old.passage.0 ≤ 16383 }
     requires height { seat.old.height ≤ heights_of at.ways }
-    ensures { Does (abort_pawn_step at seat.old (words store.old)) (told result) (words store.new) seat.new }
+    ensures { Does (abort_pawn_step at seat.old (S.words store.old)) (told result) (S.words store.new) seat.new }
 {
     let pawns = PawnSet(read(store, at, Cell::Pawns)?);
     match pawns.abort(at.way, seat.passage) {
@@ -77,8 +77,8 @@ pub(crate) fn abort_queen<S: Store>(
     seat: &mut Seat,
     at: Meeting,
 ) -> Result<(), BoxFault>
-    requires room { Room at (length (words store.old)) }
-    ensures { Does (abort_queen_step at seat.old (words store.old)) (told result) (words store.new) seat.new }
+    requires room { Room at (length (S.words store.old)) }
+    ensures { Does (abort_queen_step at seat.old (S.words store.old)) (told result) (S.words store.new) seat.new }
 {
     if swap(store, at, Cell::SyncOne, 0, QUEEN_GONE)? {
         seat.scan = WayId(0);
@@ -95,8 +95,8 @@ pub(crate) fn accept_gate<S: Store>(
     seat: &mut Seat,
     at: Meeting,
 ) -> Result<(), BoxFault>
-    requires room { Room at (length (words store.old)) }
-    ensures { Does (accept_gate_step at seat.old (words store.old)) (told result) (words store.new) seat.new }
+    requires room { Room at (length (S.words store.old)) }
+    ensures { Does (accept_gate_step at seat.old (S.words store.old)) (told result) (S.words store.new) seat.new }
 {
     let word = read(store, at, Cell::SyncOne)?;
     let Some(height) = handed_height(word, seat.height, at) else {
@@ -118,8 +118,8 @@ pub(crate) fn withdraw_apply<S: Store>(
     seat: &mut Seat,
     at: Meeting,
 ) -> Result<(), BoxFault>
-    requires room { Room at (length (words store.old)) }
-    ensures { Does (withdraw_apply_step at seat.old (words store.old)) (told result) (words store.new) seat.new }
+    requires room { Room at (length (S.words store.old)) }
+    ensures { Does (withdraw_apply_step at seat.old (S.words store.old)) (told result) (S.words store.new) seat.new }
 {
     swap(
         store,

@@ -40,9 +40,9 @@ pub(crate) fn position(at: Meeting, cell: Cell) -> usize
 
 // The word in a cell.
 pub(crate) fn read<S: Store>(store: &mut S, at: Meeting, cell: Cell) -> Result<u64, BoxFault>
-    requires { cell_at at cell < length (words store.old) }
-    ensures answer { result ≡ Ok (word (words store.old) at cell) }
-    ensures after { words store.new ≡ words store.old }
+    requires { cell_at at cell < length (S.words store.old) }
+    ensures answer { result ≡ Ok (word (S.words store.old) at cell) }
+    ensures after { S.words store.new ≡ S.words store.old }
 {
     Ok(store.read(position(at, cell))?)
 }
@@ -54,9 +54,9 @@ pub(crate) fn write<S: Store>(
     cell: Cell,
     word: u64,
 ) -> Result<(), BoxFault>
-    requires { cell_at at cell < length (words store.old) }
+    requires { cell_at at cell < length (S.words store.old) }
     ensures answer { result ≡ Ok tt }
-    ensures after { words store.new ≡ put (words store.old) at cell word }
+    ensures after { S.words store.new ≡ put (S.words store.old) at cell word }
 {
     Ok(store.write(position(at, cell), word)?)
 }
@@ -69,9 +69,9 @@ pub(crate) fn swap<S: Store>(
     old: u64,
     new: u64,
 ) -> Result<bool, BoxFault>
-    requires { cell_at at cell < length (words store.old) }
-    ensures answer { result ≡ Ok (holds (words store.old) at cell old) }
-    ensures after { words store.new ≡ swapped (words store.old) at cell old new }
+    requires { cell_at at cell < length (S.words store.old) }
+    ensures answer { result ≡ Ok (holds (S.words store.old) at cell old) }
+    ensures after { S.words store.new ≡ swapped (S.words store.old) at cell old new }
 {
     Ok(store.swap(position(at, cell), old, new)?)
 }

@@ -17,8 +17,8 @@ pub(crate) fn claim_apply<S: Store>(
     seat: &mut Seat,
     at: Meeting,
 ) -> Result<(), BoxFault>
-    requires room { Room at (length (words store.old)) }
-    ensures { Does (claim_apply_step at seat.old (words store.old)) (told result) (words store.new) seat.new }
+    requires room { Room at (length (S.words store.old)) }
+    ensures { Does (claim_apply_step at seat.old (S.words store.old)) (told result) (S.words store.new) seat.new }
 {
     let cell = Cell::Apply(at.way);
     if swap(store, at, cell, 0, pair(seat.passage, Mark::Reg))? {
@@ -35,8 +35,8 @@ pub(crate) fn race_for_role<S: Store>(
     at: Meeting,
     coin: Coin,
 ) -> Result<(), BoxFault>
-    requires room { Room at (length (words store.old)) }
-    ensures { Does (race_for_role_step coin at seat.old (words store.old)) (told result) (words store.new) seat.new }
+    requires room { Room at (length (S.words store.old)) }
+    ensures { Does (race_for_role_step coin at seat.old (S.words store.old)) (told result) (S.words store.new) seat.new }
 {
     let role = Cell::Role(at.way);
     match coin {
@@ -69,8 +69,8 @@ pub(crate) fn await_promotion<S: Store>(
     seat: &mut Seat,
     at: Meeting,
 ) -> Result<(), BoxFault>
-    requires room { Room at (length (words store.old)) }
-    ensures { Does (await_promotion_step at seat.old (words store.old)) (told result) (words store.new) seat.new }
+    requires room { Room at (length (S.words store.old)) }
+    ensures { Does (await_promotion_step at seat.old (S.words store.old)) (told result) (S.words store.new) seat.new }
 {
     if read(store, at, Cell::Apply(at.way))? == pair(seat.passage, Mark::Pro) {
         write(store, at, Cell::Role(at.way), Role::PromotedPawn.word())?;
@@ -88,8 +88,8 @@ pub(crate) fn recheck_count<S: Store>(
     seat: &mut Seat,
     at: Meeting,
 ) -> Result<(), BoxFault>
-    requires room { Room at (length (words store.old)) }
-    ensures { Does (recheck_count_step at seat.old (words store.old)) (told result) (words store.new) seat.new }
+    requires room { Room at (length (S.words store.old)) }
+    ensures { Does (recheck_count_step at seat.old (S.words store.old)) (told result) (S.words store.new) seat.new }
 {
     if read(store, at, Cell::Count)? == 2 {
         seat.place = Place::AwaitPromotion;
@@ -105,8 +105,8 @@ pub(crate) fn await_king<S: Store>(
     seat: &mut Seat,
     at: Meeting,
 ) -> Result<(), BoxFault>
-    requires room { Room at (length (words store.old)) }
-    ensures { Does (await_king_step at seat.old (words store.old)) (told result) (words store.new) seat.new }
+    requires room { Room at (length (S.words store.old)) }
+    ensures { Does (await_king_step at seat.old (S.words store.old)) (told result) (S.words store.new) seat.new }
 {
     let word = read(store, at, Cell::SyncOne)?;
     if word == 0 {
@@ -126,9 +126,9 @@ pub(crate) fn mark_apply<S: Store>(
     seat: &mut Seat,
     at: Meeting,
 ) -> Result<(), BoxFault>
-    requires room { Room at (length (words store.old)) }
+    requires room { Room at (length (S.words store.old)) }
     requires aim { seat.old.aim ≤ heights_of at.ways }
-    ensures { Does (mark_apply_step at seat.old (words store.old)) (told result) (words store.new) seat.new }
+    ensures { Does (mark_apply_step at seat.old (S.words store.old)) (told result) (S.words store.new) seat.new }
 {
     let own = seat.passage;
     swap(

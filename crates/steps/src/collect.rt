@@ -16,9 +16,9 @@ pub(crate) fn scan_apply<S: Store>(
     seat: &mut Seat,
     at: Meeting,
 ) -> Result<(), BoxFault>
-    requires room { Room at (length (words store.old)) }
+    requires room { Room at (length (S.words store.old)) }
     requires scan { seat.old.scan.0 < at.ways }
-    ensures { Does (scan_apply_step at seat.old (words store.old)) (told result) (words store.new) seat.new }
+    ensures { Does (scan_apply_step at seat.old (S.words store.old)) (told result) (S.words store.new) seat.new }
 {
     let word = read(store, at, Cell::Apply(seat.scan))?;
     let way = seat.scan.0;
@@ -38,9 +38,9 @@ pub(crate) fn collect_pawns<S: Store>(
     seat: &mut Seat,
     at: Meeting,
 ) -> Result<(), BoxFault>
-    requires room { Room at (length (words store.old)) }
+    requires room { Room at (length (S.words store.old)) }
     requires noted { Notable seat.old.noted }
-    ensures { Does (collect_pawns_step at seat.old (words store.old)) (told result) (words store.new) seat.new }
+    ensures { Does (collect_pawns_step at seat.old (S.words store.old)) (told result) (S.words store.new) seat.new }
 {
     let pawns = PawnSet(read(store, at, Cell::Pawns)?);
     let mut all = pawns;

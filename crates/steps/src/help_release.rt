@@ -16,8 +16,8 @@ pub(crate) fn race_to_close<S: Store>(
     seat: &mut Seat,
     at: Meeting,
 ) -> Result<(), BoxFault>
-    requires room { Room at (length (words store.old)) }
-    ensures { Does (race_to_close_step at seat.old (words store.old)) (told result) (words store.new) seat.new }
+    requires room { Room at (length (S.words store.old)) }
+    ensures { Does (race_to_close_step at seat.old (S.words store.old)) (told result) (S.words store.new) seat.new }
 {
     if swap(store, at, Cell::SyncTwo, 0, u64::from(at.way.0) + 1)? {
         seat.place = closing_place(seat);
@@ -33,8 +33,8 @@ pub(crate) fn clear_sync_one<S: Store>(
     seat: &mut Seat,
     at: Meeting,
 ) -> Result<(), BoxFault>
-    requires room { Room at (length (words store.old)) }
-    ensures { Does (clear_sync_one_step at seat.old (words store.old)) (told result) (words store.new) seat.new }
+    requires room { Room at (length (S.words store.old)) }
+    ensures { Does (clear_sync_one_step at seat.old (S.words store.old)) (told result) (S.words store.new) seat.new }
 {
     write(store, at, Cell::SyncOne, 0)?;
     seat.place = Place::ReadSyncTwo;
@@ -47,8 +47,8 @@ pub(crate) fn read_sync_two<S: Store>(
     seat: &mut Seat,
     at: Meeting,
 ) -> Result<(), BoxFault>
-    requires room { Room at (length (words store.old)) }
-    ensures { Does (read_sync_two_step at seat.old (words store.old)) (told result) (words store.new) seat.new }
+    requires room { Room at (length (S.words store.old)) }
+    ensures { Does (read_sync_two_step at seat.old (S.words store.old)) (told result) (S.words store.new) seat.new }
 {
     let word = read(store, at, Cell::SyncTwo)?;
     if word < 1 || word > u64::from(at.ways) {
@@ -65,8 +65,8 @@ pub(crate) fn clear_sync_two<S: Store>(
     seat: &mut Seat,
     at: Meeting,
 ) -> Result<(), BoxFault>
-    requires room { Room at (length (words store.old)) }
-    ensures { Does (clear_sync_two_step at seat.old (words store.old)) (told result) (words store.new) seat.new }
+    requires room { Room at (length (S.words store.old)) }
+    ensures { Does (clear_sync_two_step at seat.old (S.words store.old)) (told result) (S.words store.new) seat.new }
 {
     write(store, at, Cell::SyncTwo, 0)?;
     seat.place = Place::StrikeOut;
@@ -79,9 +79,9 @@ pub(crate) fn strike_out<S: Store>(
     seat: &mut Seat,
     at: Meeting,
 ) -> Result<(), BoxFault>
-    requires room { Room at (length (words store.old)) }
+    requires room { Room at (length (S.words store.old)) }
     requires kept { seat.old.kept_way.0 < 4 }
-    ensures { Does (strike_out_step at seat.old (words store.old)) (told result) (words store.new) seat.new }
+    ensures { Does (strike_out_step at seat.old (S.words store.old)) (told result) (S.words store.new) seat.new }
 {
     let pawns = PawnSet(read(store, at, Cell::Pawns)?);
     let mut others = pawns;

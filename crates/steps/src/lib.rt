@@ -1,4 +1,5 @@
 // One seat's poll: the step of its place, over the cells of the gate that it meets.
+#![tactic(auto)]
 
 mod abort;
 mod cells;

@@ -80,10 +80,10 @@ pub(crate) fn write_pawns<S: Store>(
     before: PawnSet,
     after: PawnSet,
 ) -> Result<(), BoxFault>
-    requires room { Room at (length (words store.old)) }
-    requires found { word (words store.old) at Pawns ≡ before.0 }
+    requires room { Room at (length (S.words store.old)) }
+    requires found { word (S.words store.old) at Pawns ≡ before.0 }
     ensures answer { result ≡ Ok tt }
-    ensures after { words store.new ≡ put (words store.old) at Pawns after.0 }
+    ensures after { S.words store.new ≡ put (S.words store.old) at Pawns after.0 }
 {
     if after.0 != before.0 {
         write(store, at, Cell::Pawns, after.0)?;

@@ -18,8 +18,8 @@ pub fn poll_seat<S: Store>(
     passage: Passage,
     coin: u8,
 ) -> Result<State, BoxFault>
-    ensures does { Does (polled_seat path.ways path.seat.0 passage.0 coin seat.old (words store.old)) (told_as state_number result) (words store.new) seat.new }
-    ensures same { Unchanged result (words store.new) (words store.old) seat.new seat.old }
+    ensures does { Does (polled_seat path.ways path.seat.0 passage.0 coin seat.old (S.words store.old)) (told_as state_number result) (S.words store.new) seat.new }
+    ensures same { Unchanged result (S.words store.new) (S.words store.old) seat.new seat.old }
 {
     let due = due(store.size(), seat, path, passage, coin)?;
     step(store, seat, due.at, due.coin)?;

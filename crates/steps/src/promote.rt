@@ -17,8 +17,8 @@ pub(crate) fn strike_self<S: Store>(
     seat: &mut Seat,
     at: Meeting,
 ) -> Result<(), BoxFault>
-    requires room { Room at (length (words store.old)) }
-    ensures { Does (strike_self_step at seat.old (words store.old)) (told result) (words store.new) seat.new }
+    requires room { Room at (length (S.words store.old)) }
+    ensures { Does (strike_self_step at seat.old (S.words store.old)) (told result) (S.words store.new) seat.new }
 {
     let pawns = PawnSet(read(store, at, Cell::Pawns)?);
     let mut others = pawns;
@@ -34,8 +34,8 @@ pub(crate) fn promote_pawn<S: Store>(
     seat: &mut Seat,
     at: Meeting,
 ) -> Result<(), BoxFault>
-    requires room { Room at (length (words store.old)) }
-    ensures { Does (promote_pawn_step at seat.old (words store.old)) (told result) (words store.new) seat.new }
+    requires room { Room at (length (S.words store.old)) }
+    ensures { Does (promote_pawn_step at seat.old (S.words store.old)) (told result) (S.words store.new) seat.new }
 {
     let pawns = PawnSet(read(store, at, Cell::Pawns)?);
     let mut after = pawns;
@@ -57,8 +57,8 @@ pub(crate) fn reset_pawns<S: Store>(
     seat: &mut Seat,
     at: Meeting,
 ) -> Result<(), BoxFault>
-    requires room { Room at (length (words store.old)) }
-    ensures { Does (reset_pawns_step at seat.old (words store.old)) (told result) (words store.new) seat.new }
+    requires room { Room at (length (S.words store.old)) }
+    ensures { Does (reset_pawns_step at seat.old (S.words store.old)) (told result) (S.words store.new) seat.new }
 {
     write(store, at, Cell::Pawns, 0)?;
     seat.place = Place::OpenGate;
@@ -71,8 +71,8 @@ pub(crate) fn open_gate<S: Store>(
     seat: &mut Seat,
     at: Meeting,
 ) -> Result<(), BoxFault>
-    requires room { Room at (length (words store.old)) }
-    ensures { Does (open_gate_step at seat.old (words store.old)) (told result) (words store.new) seat.new }
+    requires room { Room at (length (S.words store.old)) }
+    ensures { Does (open_gate_step at seat.old (S.words store.old)) (told result) (S.words store.new) seat.new }
 {
     swap(store, at, Cell::Count, 2, 0)?;
     seat.place = closing_place(seat);
@@ -85,9 +85,9 @@ pub(crate) fn mark_promoted<S: Store>(
     seat: &mut Seat,
     at: Meeting,
 ) -> Result<(), BoxFault>
-    requires room { Room at (length (words store.old)) }
+    requires room { Room at (length (S.words store.old)) }
     requires kept { seat.old.kept_way.0 < at.ways }
-    ensures { Does (mark_promoted_step at seat.old (words store.old)) (told result) (words store.new) seat.new }
+    ensures { Does (mark_promoted_step at seat.old (S.words store.old)) (told result) (S.words store.new) seat.new }
 {
     let number = seat.kept_number;
     let cell = Cell::Apply(seat.kept_way);

@@ -16,8 +16,8 @@ pub(crate) fn read_role<S: Store>(
     seat: &mut Seat,
     at: Meeting,
 ) -> Result<(), BoxFault>
-    requires room { Room at (length (words store.old)) }
-    ensures { Does (read_role_step at seat.old (words store.old)) (told result) (words store.new) seat.new }
+    requires room { Room at (length (S.words store.old)) }
+    ensures { Does (read_role_step at seat.old (S.words store.old)) (told result) (S.words store.new) seat.new }
 {
     let role = Cell::Role(at.way);
     seat.place = match Role::new(read(store, at, role)?) {
@@ -35,8 +35,8 @@ pub(crate) fn open_alone<S: Store>(
     seat: &mut Seat,
     at: Meeting,
 ) -> Result<(), BoxFault>
-    requires room { Room at (length (words store.old)) }
-    ensures { Does (open_alone_step at seat.old (words store.old)) (told result) (words store.new) seat.new }
+    requires room { Room at (length (S.words store.old)) }
+    ensures { Does (open_alone_step at seat.old (S.words store.old)) (told result) (S.words store.new) seat.new }
 {
     if swap(store, at, Cell::Count, 1, 0)? {
         seat.place = Place::ReadApply;
@@ -52,8 +52,8 @@ pub(crate) fn hand_over<S: Store>(
     seat: &mut Seat,
     at: Meeting,
 ) -> Result<(), BoxFault>
-    requires room { Room at (length (words store.old)) }
-    ensures { Does (hand_over_step at seat.old (words store.old)) (told result) (words store.new) seat.new }
+    requires room { Room at (length (S.words store.old)) }
+    ensures { Does (hand_over_step at seat.old (S.words store.old)) (told result) (S.words store.new) seat.new }
 {
     if swap(store, at, Cell::SyncOne, 0, u64::from(seat.top))? {
         seat.handed = true;
@@ -71,8 +71,8 @@ pub(crate) fn read_apply<S: Store>(
     seat: &mut Seat,
     at: Meeting,
 ) -> Result<(), BoxFault>
-    requires room { Room at (length (words store.old)) }
-    ensures { Does (read_apply_step at seat.old (words store.old)) (told result) (words store.new) seat.new }
+    requires room { Room at (length (S.words store.old)) }
+    ensures { Does (read_apply_step at seat.old (S.words store.old)) (told result) (S.words store.new) seat.new }
 {
     let word = read(store, at, Cell::Apply(at.way))?;
     seat.kept_number = Passage((word / 4 % 16384) as u16);
@@ -86,9 +86,9 @@ pub(crate) fn clear_apply<S: Store>(
     seat: &mut Seat,
     at: Meeting,
 ) -> Result<(), BoxFault>
-    requires room { Room at (length (words store.old)) }
+    requires room { Room at (length (S.words store.old)) }
     requires height { seat.old.height ≤ 3 }
-    ensures { Does (clear_apply_step at seat.old (words store.old)) (told result) (words store.new) seat.new }
+    ensures { Does (clear_apply_step at seat.old (S.words store.old)) (told result) (S.words store.new) seat.new }
 {
     swap(
         store,

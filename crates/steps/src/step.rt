@@ -16,9 +16,9 @@ pub(crate) fn step<S: Store>(
     at: Meeting,
     coin: Coin,
 ) -> Result<(), BoxFault>
-    requires room { Room at (length (words store.old)) }
+    requires room { Room at (length (S.words store.old)) }
     requires ready { Ready at.ways seat.old }
-    ensures { Does (step_of seat.old.place coin at seat.old (words store.old)) (told result) (words store.new) seat.new }
+    ensures { Does (step_of seat.old.place coin at seat.old (S.words store.old)) (told result) (S.words store.new) seat.new }
 {
     match seat.place {
         Place::Rest => Ok(()),

@@ -4,7 +4,7 @@
 --     image_words bs     the words of an image
 --     with_word bs at w  the bytes with the word w put at at
 --     image_refusal bs   the number by which an image is refused, if it is
-use Rattle.std.specs.Prelude.{ℕ, ◌+◌, ◌-◌, ◌*◌, ◌/◌, ◌%◌, Bool, cond, not, List, [], ◌∷◌, ◌++◌, map, length, take, drop, Some, None, Option, ◌==◌, nat_lt, slice_index}
+use Rattle.std.specs.Prelude.{ℕ, ◌+◌, ◌-◌, ◌*◌, ◌/◌, ◌%◌, cond, not, List, [], ◌∷◌, ◌++◌, map, length, take, drop, Some, None, Option, ◌==◌, nat_lt, slice_index}
 use Rattle.std.specs.List.{range_with_len}
 
 -- the word of eight bytes from the byte at, the highest first

@@ -1,4 +1,5 @@
 // A store of 64-bit words: what it means, and its two kinds.
+#![tactic(auto)]
 
 pub mod fault;
 mod image;

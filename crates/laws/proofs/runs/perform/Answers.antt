@@ -16,4 +16,4 @@ loop-call-preserved g c =
 pub returns : goal.returns
 returns g c =
     let b : BoxState = state_of c.loop-call.gate c.loop-call.table (g.S.Store.words c.loop-call.store) in
-    performs_all _ _ _ _ _ _ _ _ b _ c.in-ok-gate.ensures c.loop-call-test.false c.loop-call.invariant.0 c.loop-call.invariant.1
+    performs_all _ _ _ _ _ _ _ _ b _ c.in_ok-gate.ensures c.loop-call-test.false c.loop-call.invariant.0 c.loop-call.invariant.1

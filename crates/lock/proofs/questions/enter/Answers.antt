@@ -3,9 +3,9 @@ use Rattle.std.proofs.lemmas.List.{get_or_default}
 use Rattle.lock.specs.Questions.{enter_refusal}
 use Rattle.lock.proofs.questions.enter.Goals as goal
 
-pub returns-in-err-reach : goal.returns-in-err-reach
+pub returns-in_err-reach : goal.returns-in_err-reach
 unfolding enter_refusal
-returns-in-err-reach g c = search rules
+returns-in_err-reach g c = search rules
 
 pub returns-then-not-lawful : goal.returns-then-not-lawful
 unfolding enter_refusal

@@ -8,17 +8,17 @@ returns-then-is-empty c =
     let h : eqb (length c.args.word.now) 0 ≡ true = search rules in
     record { value = field_empty _ _ h; bound = tt }
 
-pub returns-in-err-value : goal.returns-in-err-value
-returns-in-err-value c =
-    let h : Err c.in-err-value.field-0.0 ≡ digit_of c.args.part c.loop-at.value (get_or c.args.word.now c.loop-at.at 0) = search rules in
-    let r : c.from-residual.result ≡ Err c.in-err-value.field-0.0 = search rules in
+pub returns-in_err-value : goal.returns-in_err-value
+returns-in_err-value c =
+    let h : Err c.in_err-value.field-0.0 ≡ digit_of c.args.part c.loop-at.value (get_or c.args.word.now c.loop-at.at 0) = search rules in
+    let r : c.from_residual.result ≡ Err c.in_err-value.field-0.0 = search rules in
     let g : eqb (length c.args.word.now) 0 ≡ false = search rules in
     record { value = r ∙ field_digits _ _ _ g (digits_stop _ _ _ _ _ c.loop-at-test.true h c.loop-at.invariant.0); bound = search rules }
 
 pub loop-at-preserved : goal.loop-at-preserved
 loop-at-preserved c =
-    let h : Ok c.in-ok-value.value ≡ digit_of c.args.part c.loop-at.value (get_or c.args.word.now c.loop-at.at 0) = search rules in
-    let u : c.in-ok-value.value ≤ most_of c.args.part = search rules in
+    let h : Ok c.in_ok-value.value ≡ digit_of c.args.part c.loop-at.value (get_or c.args.word.now c.loop-at.at 0) = search rules in
+    let u : c.in_ok-value.value ≤ most_of c.args.part = search rules in
     (digits_more _ _ _ _ _ c.loop-at-test.true h c.loop-at.invariant.0, u)
 
 pub returns : goal.returns

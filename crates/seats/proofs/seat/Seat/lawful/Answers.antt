@@ -3,4 +3,4 @@ use Rattle.seats.proofs.seat.Seat.lawful.Goals as goal
 
 pub returns : goal.returns
 unfolding lawful
-returns c = c.is-lawful.ensures
+returns c = c.is_lawful.ensures
