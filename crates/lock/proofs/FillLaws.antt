@@ -1,7 +1,7 @@
 -- The front of a list filled with one value, element by element. Assumes nothing.
 --     length-filled    a list whose front is filled is as long as it was
 --     filled_more      one element more
-use Rattle.std.proofs.Common.{◌≡◌, ℕ, ◌+◌, ◌-◌, ◌<◌, ◌≤◌, List, [], ◌∷◌, ◌++◌, length, get_or, drop, set, replicate, sym, refl, ap, ◌∙◌, arith}
+use Rattle.std.proofs.Common.{◌≡◌, ℕ, ◌+◌, ◌-◌, ◌<◌, ◌≤◌, List, [], ◌∷◌, ◌++◌, length, get_or, drop, set, replicate, sym, ap, ◌∙◌, arith}
 use Rattle.std.proofs.lemmas.List.{length-append, length-replicate, length-drop, set-append_right, drop_more, append_assoc, replicate_more}
 
 module _ {X : Type 0} (x : X) (xs ys : List X) (i : ℕ) (e : ys ≡ replicate i x ++ drop i xs) where

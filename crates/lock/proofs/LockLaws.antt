@@ -1,6 +1,6 @@
 -- The poll of a box from that of a seat. Assumes nothing.
 --     settles_polled  a poll of the seat at its place in the table settles the box's poll; settles_from, by the names that the code has
-use Rattle.std.proofs.Common.{◌≡◌, ℕ, List, length, set, Some, None, Ok, Err, Result, sym, refl, ap, ◌∙◌, subst}
+use Rattle.std.proofs.Common.{◌≡◌, ℕ, List, length, set, None, Ok, Err, Result, sym, refl, ap, ◌∙◌, subst}
 use Rattle.std.proofs.lemmas.List.{set-get_or}
 use Rattle.layout.specs.declared.fault.Refusal.{Refusal}
 use Rattle.seats.specs.declared.seat.Seat.{Seat}
@@ -8,7 +8,7 @@ use Rattle.seats.specs.Seats.{away}
 use Rattle.steps.specs.Outcomes.{Outcome, Does}
 use Rattle.steps.specs.Polls.{polled_seat}
 use Rattle.steps.proofs.PollLaws.{poll_refused}
-use Rattle.lock.specs.States.{BoxState, CallOutcome, Settles, seat_at, with_seat}
+use Rattle.lock.specs.States.{BoxState, Settles, seat_at, with_seat}
 use Rattle.lock.specs.Questions.{reach_refusal}
 use Rattle.lock.specs.Calls.{seat_settled, poll_settled, polled}
 

@@ -4,7 +4,7 @@
 --     polled b p n k                    a poll of seat p with passage n and coin k; it answers the state afterwards
 --     gave_up_outcome, left, published  a give-up, a leave and a publish of seat p with passage n; they answer the state
 --     looked b p                        a look at seat p: its state and its top
-use Rattle.std.specs.Prelude.{◌≡◌, ℕ, ◌+◌, Bool, cond, List, ◌++◌, length, drop, replicate, Some, None, Ok, Err, Option, Result, ◌==◌, slice_set}
+use Rattle.std.specs.Prelude.{◌≡◌, ℕ, ◌+◌, cond, List, ◌++◌, length, drop, replicate, Some, None, Ok, Err, Option, Result, ◌==◌, slice_set}
 use Rattle.layout.specs.declared.fault.Refusal.{Refusal}
 use Rattle.layout.specs.declared.record.BoxRecord.{BoxRecord}
 use Rattle.layout.specs.Gates.{cells_of, seats_of}

@@ -4,7 +4,7 @@
 --     enter_refusal b p                               2 to 5: the record of seat p is lawful too
 --     own_refusal b p n                               2 to 6: the seat takes part, and n is its passage
 --     apply_refusal, give_up_refusal, holder_refusal  all those of an application, a give-up, and a leave or a publish
-use Rattle.std.specs.Prelude.{ℕ, Bool, not, ◌&&◌, List, length, Some, None, Option, ◌==◌, nat_le, nat_lt}
+use Rattle.std.specs.Prelude.{ℕ, Bool, not, ◌&&◌, length, Some, None, Option, ◌==◌, nat_le, nat_lt}
 use Rattle.layout.specs.declared.fault.Refusal.{Refusal}
 use Rattle.layout.specs.Boxes.{ways_refusal}
 use Rattle.layout.specs.Gates.{cells_of, seats_of}
