@@ -10,7 +10,7 @@ use Rattle.seats.specs.Places.{state_number}
 use Rattle.seats.specs.Seats.{away}
 use Rattle.steps.specs.Codes.{reg}
 use Rattle.steps.specs.Pawns.{with_lane, collect_word, abort_of, promote_word, promote_of}
-use Rattle.lock.specs.States.{BoxState, CallOutcome, seat_at}
+use Rattle.lock.specs.States.{BoxState, seat_at}
 use Rattle.lock.specs.Calls.{cleared, applied, polled, given_up, gave_up_outcome}
 
 -- a box that has just been opened, and that box after the application of seat p

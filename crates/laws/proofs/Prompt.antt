@@ -4,7 +4,7 @@
 --     refused_same    a refused call changes nothing
 --     accepted_is     what is accepted has an answer
 --     prompt_runs     every run is prompt
-use Rattle.std.proofs.Common.{◌≡◌, ℕ, ◌+◌, ◌<◌, ◌≤◌, Bool, true, false, cond, ◌&&◌, ◌≢◌, ◌⊎◌, List, [], ◌∷◌, length, get_or, set, is_ok, Some, None, Ok, Err, Option, Result, sym, refl, ap, ◌∙◌, subst, inl, inr, ⊎_elim, zero-le, arith}
+use Rattle.std.proofs.Common.{◌≡◌, ℕ, ◌+◌, ◌<◌, ◌≤◌, Bool, true, false, cond, ◌&&◌, ◌≢◌, ◌⊎◌, List, [], ◌∷◌, length, set, is_ok, Some, None, Ok, Err, Option, Result, sym, refl, ap, ◌∙◌, subst, inl, inr, ⊎_elim, zero-le, arith}
 use Rattle.std.proofs.lemmas.List.{get_or-set_same, get_or-set_other}
 use Rattle.std.proofs.lemmas.Bool.{cases_eq, cond_both, eq-eqb, ne_eqb}
 use Rattle.std.proofs.lemmas.Bool.Decides.{nat_tests}
@@ -15,18 +15,18 @@ use Rattle.layout.specs.Meetings.{meeting}
 use Rattle.seats.specs.declared.seat.Seat.{Seat}
 use Rattle.seats.specs.declared.state.State.{State}
 use Rattle.seats.specs.declared.state.State.TheVariants.{Climbing, Leaving}
-use Rattle.seats.specs.Places.{state_number, place_number}
+use Rattle.seats.specs.Places.{state_number}
 use Rattle.seats.specs.Seats.{away}
 use Rattle.steps.specs.Outcomes.{Outcome}
 use Rattle.steps.specs.Polls.{polled_seat, coin_of}
-use Rattle.lock.specs.States.{BoxState, CallOutcome, seat_at, settled, with_seat, reseat}
+use Rattle.lock.specs.States.{BoxState, seat_at, settled, with_seat, reseat}
 use Rattle.lock.specs.Questions.{reach_refusal, apply_refusal, give_up_refusal, holder_refusal}
 use Rattle.lock.specs.Calls.{seat_settled, poll_settled, polled, gave_up_outcome, left, climber, given_up, departing}
 use Rattle.laws.specs.declared.call.Call.{Call}
 use Rattle.laws.specs.declared.call.Call.TheVariants.{Apply, Poll, GiveUp, Leave, Publish}
 use Rattle.laws.specs.Runs.{performed, seat_of}
 use Rattle.laws.specs.Law.{accepts, polls_seat, polls_until, is_out, is_away, give_up_limit, leave_limit, Prompt, PromptCall}
-use Rattle.relation.proofs.Accepted.{Reached, Entered, PolledBy, poll_step, apply_accepted, poll_accepted, give_up_accepted, leave_accepted, publish_accepted}
+use Rattle.relation.proofs.Accepted.{Reached, PolledBy, poll_step, apply_accepted, poll_accepted, give_up_accepted, leave_accepted, publish_accepted}
 use Rattle.relation.proofs.LawfulLaws.{LawfulParts, FreshAt, parts_from_lawful, leaves_at, quits_at, fresh_at, holding_top}
 use Rattle.relation.proofs.RankLaws.{leaving_on, quitting_on, falls_leaving, stays_leaving, falls_quitting, stays_quitting}
 use Rattle.relation.proofs.Ranks.{rank_of}

@@ -12,7 +12,7 @@ use Rattle.lock.specs.States.{BoxState, CallOutcome, Settles, seat_at, state_of}
 use Rattle.lock.specs.Calls.{Opens, cleared}
 use Rattle.laws.specs.declared.call.Call.{Call}
 use Rattle.laws.specs.declared.call.Got.{Got}
-use Rattle.laws.specs.Runs.{Gets, Performs, performed, performed_open, got_of, gots, run, seat_of}
+use Rattle.laws.specs.Runs.{Gets, Performs, performed, performed_open, gots, run, seat_of}
 
 pub settled-after : {A : Type 0} (o : CallOutcome A) (r : Result A Refusal) (b : BoxState) → Settles o r b → b ≡ o.after
 settled-after o r b h = λ i. record { ways = h.ways i; next = h.next i; seats = h.seats i; cells = h.cells i }

@@ -12,10 +12,9 @@
 use Rattle.std.specs.Prelude.{◌≡◌, ℕ, ◌+◌, ◌-◌, ◌*◌, ◌<◌, ◌≤◌, Bool, true, false, cond, ◌&&◌, ◌||◌, ◌≢◌, List, [], ◌∷◌, length, is_ok, Ok, Err, Result, ◌==◌, slice_index}
 use Rattle.layout.specs.declared.fault.Refusal.{Refusal}
 use Rattle.layout.specs.Gates.{heights_of, seats_of, gate_of}
-use Rattle.seats.specs.declared.seat.Seat.{Seat}
 use Rattle.seats.specs.Places.{state_number}
 use Rattle.seats.specs.Seats.{keeps_height}
-use Rattle.lock.specs.States.{BoxState, CallOutcome, seat_at}
+use Rattle.lock.specs.States.{BoxState, seat_at}
 use Rattle.laws.specs.declared.call.Call.{Call}
 use Rattle.laws.specs.declared.call.Call.TheVariants.{Apply, Poll, GiveUp, Leave, Publish}
 use Rattle.laws.specs.Runs.{performed, run}

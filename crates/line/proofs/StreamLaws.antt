@@ -3,7 +3,7 @@
 --     turns_answered  a turn that answers
 --     within-part     what a turn has written lies in the reply memory
 --     begins, ends    the first turn of a loop, and the end of its turns
---     stops, goes_on  a loop that stops with a turn, or goes on after it
+--     stops, goes_on_lem  a loop that stops with a turn, or goes on after it
 use Rattle.std.proofs.Common.{◌≡◌, ℕ, suc, ◌+◌, ◌-◌, ◌<◌, ◌≤◌, Bool, true, false, cond, not, ◌&&◌, ltb, List, [], ◌++◌, length, take, drop, Some, None, Ok, Err, Option, Result, sym, refl, ap, ◌∙◌, subst, arith}
 use borrow.Rule.Slice.PartMut.{put_mid}
 use Rattle.std.proofs.lemmas.List.{append-nil, drop_all, length-append, length-drop, length-take-le, take_rest}
@@ -113,8 +113,8 @@ module _ (i : ℕ) (e : Bool) (bs : List ℕ) (t t₀ : Turn) (inv : streamed (s
         let j = ap (λ x. goes_on x (turned e bs t) (streamed (suc (length bs) - (i + 1)) e bs)) (sym k ∙ s.pause) in
         subst (λ (o : Turn). Turns o (Some p) w b at out) (j ∙ more) (subst (λ (x : Option Pause). Turns (turned e bs t) x w b at out) k s)
 
-    pub goes_on : q ≡ None → streamed (suc (length bs) - (i + 1)) e bs (turn_of w b at out) ≡ streamed (suc (length bs)) e bs t₀
-    goes_on k =
+    pub goes_on_lem : q ≡ None → streamed (suc (length bs) - (i + 1)) e bs (turn_of w b at out) ≡ streamed (suc (length bs)) e bs t₀
+    goes_on_lem k =
         let n : ℕ = suc (length bs) - (i + 1) in
         let j = subst (λ (x : Option Pause). Turns (turned e bs t) x w b at out) k s in
         ap (streamed n e bs) (same_turn (turned e bs t) None w b at out j)

@@ -5,7 +5,7 @@
 --     refused_body f  the body of a refusal
 --     reply_body k x  the body of the reply to a message of kind k, accepted with a content or refused
 --     Written         a function wrote a body in its frame onto a memory, and answered how many bytes that are
-use Rattle.std.specs.Prelude.{◌≡◌, ℕ, ◌+◌, ◌/◌, ◌%◌, List, [], ◌∷◌, ◌++◌, length, drop, Ok, Err, Result}
+use Rattle.std.specs.Prelude.{◌≡◌, ℕ, ◌/◌, ◌%◌, List, [], ◌∷◌, ◌++◌, length, drop, Ok, Err, Result}
 use Rattle.layout.specs.declared.fault.Refusal.{Refusal}
 use Rattle.seats.specs.Places.{state_number}
 use Rattle.line.specs.declared.fault.LineRefusal.{LineRefusal}

@@ -2,7 +2,7 @@
 --     Entered b p                                                                        questions 2 to 5 were answered by yes
 --     apply_accepted, give_up_accepted, leave_accepted, publish_accepted, poll_accepted  for each call, by a record of
 --                                 what it asked and of the box afterwards
-use Rattle.std.proofs.Common.{◌≡◌, ℕ, ◌+◌, ◌<◌, ◌≤◌, Bool, true, false, not, ◌&&◌, ◌||◌, eqb, ltb, leb, ◌⊎◌, List, length, Some, None, Ok, Err, Option, Result, sym, refl, ap, ◌∙◌, inl, inr, ⊎_elim, arith}
+use Rattle.std.proofs.Common.{◌≡◌, ℕ, ◌+◌, ◌<◌, ◌≤◌, Bool, true, false, not, ◌&&◌, ◌||◌, ltb, leb, ◌⊎◌, List, length, Some, None, Ok, Err, Option, Result, sym, refl, ap, ◌∙◌, inl, inr, ⊎_elim, arith}
 use Rattle.std.proofs.lemmas.Bool.{and_parts, or_cases, leb-true, ltb-true, eqb-true, not-true}
 use Rattle.layout.specs.declared.fault.Refusal.{Refusal}
 use Rattle.layout.specs.Gates.{cells_of, seats_of}
@@ -13,7 +13,7 @@ use Rattle.seats.specs.Lawful.{lawful}
 use Rattle.seats.specs.Places.{state_number}
 use Rattle.steps.specs.Outcomes.{Outcome}
 use Rattle.steps.specs.Polls.{ask, coin_of, takes_part, step_of, stepped, poll_refusal, poll_after, polled_seat, state_answered, state_told}
-use Rattle.lock.specs.States.{BoxState, CallOutcome, seat_at, settled, with_seat, reseat}
+use Rattle.lock.specs.States.{BoxState, seat_at, settled, with_seat, reseat}
 use Rattle.lock.specs.Questions.{or_else, reach_refusal, enter_refusal, own_refusal, apply_refusal, give_up_refusal, holder_refusal, is_in}
 use Rattle.lock.specs.Calls.{seat_settled, poll_settled, polled, applied, gave_up_outcome, left, published, climber, given_up, departing}
 

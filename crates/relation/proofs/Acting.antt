@@ -4,30 +4,28 @@
 --     Acts        a seat that takes part, in a related box
 --     moved-gate  the gate after a move
 --     high-else   the other seats occupy what they occupied
-use Rattle.std.proofs.Common.{◌≡◌, ℕ, ◌+◌, ◌-◌, ◌^◌, ◌<◌, ◌≤◌, Bool, true, false, cond, ◌&&◌, eqb, ◌≢◌, ◌⊎◌, List, length, sym, refl, ap, ◌∙◌, subst, inl, inr, arith}
+use Rattle.std.proofs.Common.{◌≡◌, ℕ, ◌+◌, ◌-◌, ◌^◌, ◌<◌, ◌≤◌, Bool, true, cond, ◌≢◌, ◌⊎◌, List, sym, refl, ap, ◌∙◌, subst, inl, inr, arith}
 use native.Mathlib.Decide.{ℕ_discrete}
 use Rattle.std.proofs.lemmas.Bool.{eq-eqb, ne_eqb}
 use Rattle.std.proofs.lemmas.Bool.Decides.{nat_tests}
-use Rattle.layout.specs.declared.path.Meeting.{Meeting}
-use Rattle.layout.specs.Gates.{heights_of, seats_of, gates_of, cells_of, gate_of, way_of, gate_cells, cell_of}
+use Rattle.layout.specs.Gates.{heights_of, seats_of, gate_of, way_of, gate_cells, cell_of}
 use Rattle.layout.specs.Meetings.{meeting}
 use Rattle.seats.specs.declared.seat.Seat.{Seat}
-use Rattle.seats.specs.declared.state.State.{State}
 use Rattle.seats.specs.Lawful.{lawful_open}
-use Rattle.seats.specs.Places.{state_number, place_number, within}
+use Rattle.seats.specs.Places.{state_number, place_number}
 use Rattle.store.specs.Words.{held}
-use Rattle.steps.specs.declared.cells.Cell.TheVariants.{Count, SyncOne, SyncTwo, Pawns, Apply, Role}
+use Rattle.steps.specs.declared.cells.Cell.TheVariants.{SyncOne, Role}
 use Rattle.steps.specs.Pawns.{lane}
 use Rattle.lock.specs.States.{BoxState, seat_at, with_seat}
 use Rattle.gate.proofs.Phases.{Phase, Stand, Marks, Cells}
 use Rattle.gate.proofs.Gates.{Gate, Turn, still, at, turned, gate_same}
 use Rattle.relation.proofs.Geometry.{gate_inside, height_apart}
 use Rattle.relation.proofs.Frames.{gate_apart}
-use Rattle.relation.proofs.Views.{word_of, cells_at, marks_of, marks_at, Ghost, stands_at, stand_of, shown, stand_at, low_of, high_of, high_at, Occupies}
-use Rattle.relation.proofs.Relation.{Sized, Sound, Linked, GateAt, Related}
-use Rattle.relation.proofs.Frame.{seat_own, seat_else, SameWords, same_words}
+use Rattle.relation.proofs.Views.{word_of, cells_at, marks_of, marks_at, Ghost, stands_at, stand_of, shown, stand_at, low_of, high_of, high_at}
+use Rattle.relation.proofs.Relation.{GateAt, Related}
+use Rattle.relation.proofs.Frame.{seat_own, seat_else, same_words}
 use Rattle.relation.proofs.Links.{shown-nobody, shown-here, shown-inside, turned_ghost}
-use Rattle.relation.proofs.GateWords.{Words, Shows, Wrote, cells_in, marks_in}
+use Rattle.relation.proofs.GateWords.{Words, Wrote, cells_in, marks_in}
 
 abbrev pub Queenly : Stand → Marks → Type 0
 Queenly v x = (v.stage ≡ 1) × (14 ≤ v.place) × (v.place ≤ 27) × (v.place ≢ 16) × (x.role ≡ 2)

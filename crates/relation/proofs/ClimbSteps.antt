@@ -1,30 +1,24 @@
 -- The steps of a seat that tries to win a gate keep the relation: places 5, 7, 8 and 14. Assumes nothing.
-use Rattle.std.proofs.Common.{◌≡◌, ℕ, ◌+◌, ◌-◌, ◌*◌, ◌/◌, ◌%◌, ◌^◌, ◌<◌, ◌≤◌, Bool, true, false, cond, eqb, ◌≢◌, ◌⊎◌, List, Ok, sym, refl, ap, ◌∙◌, subst, inl, inr, arith}
-use Rattle.std.proofs.lemmas.Bool.{cond_both, eqb-true, eqb-false}
+use Rattle.std.proofs.Common.{◌≡◌, ℕ, true, ◌≢◌, Ok, refl, ap, arith}
 use Rattle.std.proofs.lemmas.Bool.Decides.{nat_tests}
 use Rattle.layout.specs.Gates.{heights_of, gate_of, way_of}
 use Rattle.seats.specs.declared.seat.Seat.{Seat}
 use Rattle.seats.specs.declared.state.State.TheVariants.{Climbing}
-use Rattle.seats.specs.declared.place.Place.TheVariants.{RaceForRole, AwaitPromotion, RecheckCount, AwaitKing, MarkApply}
+use Rattle.seats.specs.declared.place.Place.TheVariants.{RaceForRole, MarkApply}
 use Rattle.seats.specs.Lawful.{lawful_open}
-use Rattle.seats.specs.Places.{place_number, within}
+use Rattle.seats.specs.Places.{place_number}
 use Rattle.seats.specs.Seats.{goes_to, aims}
-use Rattle.steps.specs.declared.codes.Coin.{Coin}
-use Rattle.steps.specs.declared.codes.Coin.TheVariants.{TryKing, TryQueen, TryPawn}
-use Rattle.steps.specs.declared.cells.Cell.TheVariants.{Count, SyncOne, Apply, Role}
-use Rattle.steps.specs.Codes.{reg, pro}
-use Rattle.steps.specs.Outcomes.{Outcome, did, word, holds, put}
-use Rattle.steps.specs.Climb.{race_for_role_step, await_promotion_step, recheck_count_step, await_king_step}
+use Rattle.steps.specs.declared.cells.Cell.TheVariants.{Count, Role}
+use Rattle.steps.specs.Outcomes.{Outcome, did, put}
 use Rattle.lock.specs.States.{BoxState, seat_at}
-use Rattle.gate.proofs.Phases.{Phase, Stand, Marks, Cells}
+use Rattle.gate.proofs.Phases.{Phase}
 use Rattle.gate.proofs.Gates.{Nothing}
-use Rattle.gate.proofs.Moves.{become_pawn, see_promotion, not_promoted, still_taken, race_again, read_hand_over}
-use Rattle.gate.proofs.Turns.{become_king, become_queen}
+use Rattle.gate.proofs.Turns.{become_king}
 use Rattle.relation.proofs.Views.{word_of, Ghost, stands_at, stand_of, high_of, high_at}
 use Rattle.relation.proofs.Acting.{Acts}
-use Rattle.relation.proofs.Polls.{Next, Goes}
-use Rattle.relation.proofs.Writings.{m, c₀, x₀, here, cells_ok, way_ok, Writing, writes_nothing, writes-count, writes-role, go, calmly, high_plain}
-use Rattle.relation.proofs.Standing.{stands_climbing, next_same, queen_waits}
+use Rattle.relation.proofs.Polls.{Next}
+use Rattle.relation.proofs.Writings.{m, c₀, x₀, here, cells_ok, way_ok, writes_nothing, writes-count, writes-role, go}
+use Rattle.relation.proofs.Standing.{stands_climbing}
 
 -- a step that was done leaves a related box, given that its seat is lawful
 abbrev pub Keeps : BoxState → ℕ → Outcome (Unit {0}) → Type 0

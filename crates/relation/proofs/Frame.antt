@@ -3,10 +3,10 @@
 --     sound-change  the box stays sound
 --     Elsewhere     what stays at the other gates
 --     gates_change  every gate is in its phase, if the changed one is
-use Rattle.std.proofs.Common.{◌≡◌, ℕ, ◌+◌, ◌-◌, ◌^◌, ◌<◌, ◌≤◌, Bool, true, false, cond, ◌≢◌, ◌⊎◌, List, length, get_or, set, sym, refl, ap, ◌∙◌, subst, inl, inr, arith}
+use Rattle.std.proofs.Common.{◌≡◌, ℕ, ◌+◌, ◌^◌, ◌<◌, ◌≤◌, true, ◌≢◌, List, length, sym, refl, ◌∙◌, subst, arith}
 use native.Mathlib.Decide.{ℕ_discrete}
 use Rattle.std.proofs.lemmas.List.{get_or-set_same, get_or-set_other, length-set}
-use Rattle.layout.specs.Gates.{heights_of, seats_of, cells_of, gate_of, way_of, gate_cells, cell_of, count_cell, sync_one, sync_two, pawns_cell, apply_cell, role_cell}
+use Rattle.layout.specs.Gates.{heights_of, seats_of, gate_of, way_of, gate_cells, cell_of, count_cell, sync_one, sync_two, pawns_cell, apply_cell, role_cell}
 use Rattle.seats.specs.declared.seat.Seat.{Seat}
 use Rattle.seats.specs.Lawful.{lawful_open}
 use Rattle.seats.specs.Places.{state_number, place_number}
@@ -15,11 +15,11 @@ use Rattle.store.specs.Words.{held}
 use Rattle.steps.specs.declared.cells.Cell.TheVariants.{Count, SyncOne, SyncTwo, Pawns, Apply, Role}
 use Rattle.steps.specs.Pawns.{lane}
 use Rattle.lock.specs.States.{BoxState, seat_at, with_seat}
-use Rattle.gate.proofs.Phases.{Marks, Cells, Phase, Stand}
+use Rattle.gate.proofs.Phases.{Cells, Phase}
 use Rattle.gate.proofs.Gates.{Gate, gate_same}
 use Rattle.relation.proofs.Geometry.{height_apart}
-use Rattle.relation.proofs.Views.{word_of, cells_at, marks_of, marks_at, Ghost, stand_at, Occupies}
-use Rattle.relation.proofs.Relation.{YetAt, Late, Sized, HandedFits, Sound, Linked, GateAt, Related}
+use Rattle.relation.proofs.Views.{word_of, cells_at, marks_of, marks_at, Ghost, stand_at}
+use Rattle.relation.proofs.Relation.{YetAt, Late, Sized, HandedFits, Sound, GateAt, Related}
 
 -- seat p of the box b gets the record t
 pub record SeatChange (b : BoxState) (p : ℕ) (t : Seat) : Type 0 where

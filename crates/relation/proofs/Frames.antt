@@ -2,7 +2,7 @@
 --     step_length   it keeps the number of cells
 --     step_outside  it leaves every cell before and after those of the gate
 --     gate_apart    the cells of one gate lie before or after those of another
-use Rattle.std.proofs.Common.{◌≡◌, ℕ, ◌+◌, ◌<◌, ◌≤◌, ◌≢◌, ◌⊎◌, List, length, get_or, set, refl, inl, inr, ⊎_elim, mul-le-mul_right, arith, rules}
+use Rattle.std.proofs.Common.{◌≡◌, ℕ, ◌+◌, ◌<◌, ◌≤◌, ◌≢◌, ◌⊎◌, List, length, get_or, inl, inr, ⊎_elim, mul-le-mul_right, arith, rules}
 use Rattle.std.proofs.lemmas.List.{length-set, get_or-set_other}
 use Rattle.std.proofs.lemmas.Bool.{cases_lt}
 use Rattle.layout.specs.declared.path.Meeting.{Meeting}
@@ -10,7 +10,6 @@ use Rattle.layout.specs.Gates.{gate_cells, cell_of}
 use Rattle.seats.specs.declared.seat.Seat.{Seat}
 use Rattle.seats.specs.declared.place.Place.{Place}
 use Rattle.steps.specs.declared.codes.Coin.{Coin}
-use Rattle.steps.specs.Outcomes.{Outcome}
 use Rattle.steps.specs.Polls.{step_of}
 
 pub step_length : (x : Place) (c : Coin) (m : Meeting) (s : Seat) (ws : List ℕ) → length (step_of x c m s ws).cells ≡ length ws

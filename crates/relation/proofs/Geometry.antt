@@ -3,8 +3,8 @@
 --     gate_inside   a seat meets a gate of the box, by one of its ways
 --     above         seats that share a gate share all gates and ways above it
 --     height_apart  gates of different heights are different
-use Rattle.std.proofs.Common.{◌≡◌, ℕ, zero, suc, ◌+◌, ◌<◌, ◌≤◌, ◌≢◌, refl, arith}
-use Rattle.layout.specs.Gates.{heights_of, seats_of, gates_of, gate_of, way_of}
+use Rattle.std.proofs.Common.{◌≡◌, ℕ, zero, suc, ◌+◌, ◌<◌, ◌≤◌, refl, arith}
+use Rattle.layout.specs.Gates.{seats_of, gates_of, gate_of, way_of}
 
 pub by_shape : (P : ℕ → ℕ → Type 0) → P 2 1 → P 3 1 → P 3 2 → P 4 1 → P 4 2 → P 4 3 → (w h : ℕ) → 2 ≤ w → w ≤ 4 → 1 ≤ h → h < w → P w h
 by_shape P a b c d e f zero h lo hi l u = absurd (omega arith)

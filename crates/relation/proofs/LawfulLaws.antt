@@ -2,7 +2,7 @@
 --     LawfulParts, parts_from_lawful  its three conditions
 --     leaves_at, quits_at, fresh_at   a seat that leaves; one that climbs and has given up; one that has not
 --     holding_top                     a holder has won every height
-use Rattle.std.proofs.Common.{◌≡◌, ℕ, ◌+◌, ◌<◌, ◌≤◌, Bool, true, false, ◌&&◌, ◌⊎◌, refl, arith}
+use Rattle.std.proofs.Common.{◌≡◌, ℕ, ◌+◌, ◌<◌, ◌≤◌, true, false, ◌&&◌, ◌⊎◌, refl, arith}
 use Rattle.std.proofs.lemmas.Bool.{and_parts}
 use Rattle.std.proofs.lemmas.Bool.Decides.{nat_tests}
 use Rattle.layout.specs.Gates.{heights_of}

@@ -1,6 +1,6 @@
 -- Every step of a lawful seat leaves a lawful seat. Assumes nothing.
 --     lawful-step  for every place, over a pawn word of 64 bits
-use Rattle.std.proofs.Common.{◌≡◌, ℕ, zero, suc, ◌+◌, ◌/◌, ◌%◌, ◌^◌, ◌<◌, ◌≤◌, Bool, true, false, cond, ◌&&◌, eqb, ltb, leb, ◌≢◌, ◌⊎◌, List, length, get_or, set, Some, None, Ok, Option, refl, ap, ◌∙◌, inl, inr, ⊎_elim, arith}
+use Rattle.std.proofs.Common.{◌≡◌, ℕ, zero, suc, ◌+◌, ◌/◌, ◌%◌, ◌^◌, ◌<◌, ◌≤◌, true, false, cond, eqb, ltb, leb, ◌≢◌, ◌⊎◌, List, length, get_or, set, Some, None, Ok, Option, refl, ap, ◌∙◌, inl, inr, ⊎_elim, arith}
 use Rattle.std.proofs.lemmas.List.{get_or-set_same, get_or-set_other, set_past}
 use Rattle.std.proofs.lemmas.Bool.{cases_eq, cases_lt, cond_both, and_parts, leb-true, ltb-true, eqb-true, eqb-false}
 use Rattle.std.proofs.lemmas.Bool.Decides.{nat_tests}
@@ -11,14 +11,14 @@ use Rattle.layout.specs.Gates.{heights_of}
 use Rattle.seats.specs.declared.seat.Seat.{Seat}
 use Rattle.seats.specs.declared.place.Place.{Place}
 use Rattle.seats.specs.declared.place.Place.TheVariants.{Rest, ClaimApply, RaceForRole, AwaitPromotion, RecheckCount, AwaitKing, MarkApply, CloseApply, AbortPawn, AbortQueen, AcceptGate, WithdrawApply, ReadRole, OpenAlone, HandOver, ReadApply, ClearApply, ScanApply, CollectPawns, RaceToClose, ClearSyncOne, ReadSyncTwo, ClearSyncTwo, StrikeOut, StrikeSelf, PromotePawn, ResetPawns, OpenGate, MarkPromoted}
-use Rattle.seats.specs.declared.state.State.TheVariants.{Away, Climbing, Holding, Leaving}
+use Rattle.seats.specs.declared.state.State.TheVariants.{Climbing, Holding, Leaving}
 use Rattle.seats.specs.Lawful.{lawful_open}
 use Rattle.seats.specs.Places.{state_number, place_number, within}
 use Rattle.seats.specs.Seats.{moved, goes_to, backed_out, aims, away, scans, notes}
 use Rattle.steps.specs.declared.cells.Cell.TheVariants.{Pawns, SyncOne, Apply}
 use Rattle.steps.specs.declared.codes.Coin.{Coin}
 use Rattle.steps.specs.Outcomes.{Outcome, word, captured}
-use Rattle.steps.specs.Pawns.{abort_of, lane, waits, first_waiting_way, promoted_lane, promote_of}
+use Rattle.steps.specs.Pawns.{abort_of, lane, waits, promoted_lane, promote_of}
 use Rattle.steps.specs.Abort.{aborted_by, accept_gate_step}
 use Rattle.steps.specs.Collect.{waiting, scan_apply_step}
 use Rattle.steps.specs.Promote.{promotes}

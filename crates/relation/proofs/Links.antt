@@ -4,21 +4,21 @@
 --     turned_ghost                            another phase for one gate, and another occupant for one of its ways
 --     OwnStep                                 what such a step has to show
 --     own_related                             the relation holds afterwards
-use Rattle.std.proofs.Common.{◌≡◌, ℕ, ◌+◌, ◌-◌, ◌<◌, ◌≤◌, Bool, true, false, cond, eqb, ◌≢◌, ◌⊎◌, List, length, sym, refl, ap, ◌∙◌, subst, inl, inr, arith}
+use Rattle.std.proofs.Common.{◌≡◌, ℕ, ◌+◌, ◌-◌, ◌<◌, ◌≤◌, Bool, cond, eqb, ◌≢◌, ◌⊎◌, List, length, sym, refl, ap, ◌∙◌, subst, inl, inr, arith}
 use native.Mathlib.Decide.{ℕ_discrete}
 use Rattle.std.proofs.lemmas.Bool.{eq-eqb, ne_eqb}
-use Rattle.layout.specs.Gates.{heights_of, seats_of, gate_of, way_of, gate_cells, cell_of}
+use Rattle.layout.specs.Gates.{seats_of, gate_of, way_of, gate_cells, cell_of}
 use Rattle.seats.specs.declared.seat.Seat.{Seat}
 use Rattle.seats.specs.declared.state.State.{State}
-use Rattle.seats.specs.Places.{state_number, place_number}
+use Rattle.seats.specs.Places.{place_number}
 use Rattle.store.specs.Words.{held}
 use Rattle.lock.specs.States.{BoxState, seat_at, with_seat}
-use Rattle.gate.proofs.Phases.{Phase, Stand}
+use Rattle.gate.proofs.Phases.{Phase}
 use Rattle.gate.proofs.Gates.{still}
-use Rattle.relation.proofs.Geometry.{gate_inside, height_apart}
-use Rattle.relation.proofs.Views.{Ghost, stands_in, stands_at, stand_of, shown, stand_at, low_of, high_at, Occupies}
-use Rattle.relation.proofs.Relation.{Sized, Sound, Linked, GateAt, Related}
-use Rattle.relation.proofs.Frame.{SeatChange, seat_own, seat_else, by_seat, sound-change, same_words, Elsewhere, gates_change}
+use Rattle.relation.proofs.Geometry.{height_apart}
+use Rattle.relation.proofs.Views.{Ghost, stands_in, stands_at, stand_of, shown, low_of, high_at, Occupies}
+use Rattle.relation.proofs.Relation.{Sized, Linked, GateAt, Related}
+use Rattle.relation.proofs.Frame.{SeatChange, seat_own, seat_else, sound-change, same_words, Elsewhere, gates_change}
 
 module _ (o k : ℕ) (s : Seat) where
   pub shown-nobody : o ≡ 0 → shown o k s ≡ still 0

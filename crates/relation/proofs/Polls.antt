@@ -4,23 +4,21 @@
 --     Goes, stays   a seat that stands at the gate, and goes on standing there
 --     Rests, rests  a seat that stands at the gate, and stands at none afterwards
 --     begins        a seat that begins to stand at the gate
-use Rattle.std.proofs.Common.{◌≡◌, ℕ, ◌+◌, ◌-◌, ◌^◌, ◌<◌, ◌≤◌, Bool, true, false, cond, ◌≢◌, ◌⊎◌, List, length, sym, refl, ap, ◌∙◌, subst, inl, inr, arith}
-use native.Mathlib.Decide.{ℕ_discrete}
-use Rattle.std.proofs.lemmas.Bool.Decides.{nat_tests}
-use Rattle.layout.specs.Gates.{heights_of, seats_of, cells_of, gate_of, way_of, gate_cells, cell_of}
+use Rattle.std.proofs.Common.{◌≡◌, ℕ, ◌+◌, ◌-◌, ◌<◌, ◌≤◌, true, false, ◌≢◌, ◌⊎◌, List, sym, refl, ap, ◌∙◌, subst, inl, inr, arith}
+use Rattle.layout.specs.Gates.{heights_of, gate_of, way_of}
 use Rattle.layout.specs.Meetings.{meeting}
 use Rattle.seats.specs.declared.seat.Seat.{Seat}
 use Rattle.seats.specs.Lawful.{lawful_open}
 use Rattle.seats.specs.Places.{state_number, place_number}
-use Rattle.steps.specs.declared.cells.Cell.TheVariants.{Count, SyncOne, SyncTwo, Pawns, Apply, Role}
+use Rattle.steps.specs.declared.cells.Cell.TheVariants.{SyncOne, Role}
 use Rattle.lock.specs.States.{BoxState, seat_at, with_seat}
 use Rattle.gate.proofs.Phases.{Phase, Stand, Marks, Cells}
 use Rattle.gate.proofs.Gates.{Turn, still}
 use Rattle.relation.proofs.Views.{word_of, cells_at, marks_at, Ghost, stands_at, stand_of, stand_at, low_of, high_of, high_at, Occupies}
-use Rattle.relation.proofs.Relation.{YetAt, Late, HandedFits, Sized, Sound, GateAt, Related}
+use Rattle.relation.proofs.Relation.{YetAt, Late, Sized, GateAt, Related}
 use Rattle.relation.proofs.Frame.{SeatChange, seat_own}
 use Rattle.relation.proofs.Links.{turned_ghost, own_related, shown-here}
-use Rattle.relation.proofs.GateWords.{Words, Wrote, words_of, cells_in, marks_in}
+use Rattle.relation.proofs.GateWords.{Words, Wrote, words_of}
 use Rattle.relation.proofs.Alters.{Alters}
 use Rattle.relation.proofs.Acting.{Queenly, Acts, way_inside, moved-gate, outside-words, high-else, stand-here, stand-inside, stand-gone, occupies_own}
 

@@ -16,7 +16,7 @@ use Rattle.seats.specs.declared.place.Place.TheVariants.{Rest, ClaimApply, RaceF
 use Rattle.seats.specs.Places.{place_number}
 use Rattle.steps.specs.declared.cells.Cell.TheVariants.{Pawns}
 use Rattle.steps.specs.declared.codes.Coin.{Coin}
-use Rattle.steps.specs.Outcomes.{Outcome, word}
+use Rattle.steps.specs.Outcomes.{word}
 use Rattle.steps.specs.Pawns.{promote_of}
 use Rattle.steps.specs.Promote.{promotes}
 use Rattle.steps.specs.Polls.{step_of}

@@ -6,7 +6,7 @@
 --     won_of w t     for a climbing seat that has given up and captures with top t; most_won, from a height up
 --     freeing n w s  for what climbing and leaving seats share at a gate, from place n up to the closing
 --     rank_of w s    the number; 0 for a seat that is away or holds
-use Rattle.std.proofs.Common.{ℕ, ◌+◌, ◌-◌, ◌*◌, max, Bool, cond, ◌||◌, eqb, leb, List, [], ◌∷◌, get_or}
+use Rattle.std.proofs.Common.{ℕ, ◌+◌, ◌-◌, ◌*◌, max, cond, ◌||◌, eqb, leb, [], ◌∷◌, get_or}
 use Rattle.layout.specs.Gates.{heights_of}
 use Rattle.seats.specs.declared.seat.Seat.{Seat}
 use Rattle.seats.specs.declared.state.State.{State}

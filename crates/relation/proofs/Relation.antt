@@ -4,7 +4,7 @@
 --     Linked b G   the occupants are those seats that occupy the gate
 --     Gated b G    every gate is in its phase
 --     Related b G  all of this
-use Rattle.std.proofs.Common.{◌≡◌, ℕ, ◌+◌, ◌^◌, ◌<◌, ◌≤◌, Bool, true, ◌≢◌, ◌⊎◌, length}
+use Rattle.std.proofs.Common.{◌≡◌, ℕ, ◌+◌, ◌^◌, ◌<◌, ◌≤◌, true, ◌≢◌, ◌⊎◌, length}
 use Rattle.layout.specs.Gates.{heights_of, seats_of, cells_of, gate_of, way_of}
 use Rattle.seats.specs.declared.seat.Seat.{Seat}
 use Rattle.seats.specs.Lawful.{lawful_open}

@@ -4,19 +4,17 @@
 --     next_same                                                a box that is as it was
 --     empty_way                                                a way with an empty Apply has nobody
 --     queen_waits, queen_accepts, role_released, first_closed  what is read at 14, 27, 35 and 59
-use Rattle.std.proofs.Common.{◌≡◌, ℕ, ◌+◌, ◌-◌, ◌<◌, ◌≤◌, Bool, true, false, cond, eqb, ◌≢◌, ◌⊎◌, get_or, set, sym, refl, ap, ◌∙◌, subst, inl, inr, arith}
+use Rattle.std.proofs.Common.{◌≡◌, ℕ, ◌+◌, ◌-◌, ◌<◌, ◌≤◌, ◌≢◌, ◌⊎◌, sym, ap, ◌∙◌, subst, arith}
 use native.Mathlib.Decide.{ℕ_discrete}
 use Rattle.std.proofs.lemmas.List.{set-get_or}
-use Rattle.layout.specs.Gates.{heights_of, seats_of, gate_of, way_of}
+use Rattle.layout.specs.Gates.{seats_of, gate_of, way_of}
 use Rattle.seats.specs.declared.seat.Seat.{Seat}
-use Rattle.seats.specs.declared.state.State.{State}
-use Rattle.seats.specs.declared.state.State.TheVariants.{Away, Climbing, Holding, Leaving}
-use Rattle.seats.specs.Places.{state_number, place_number}
+use Rattle.seats.specs.declared.state.State.TheVariants.{Climbing, Leaving}
+use Rattle.seats.specs.Places.{place_number}
 use Rattle.seats.specs.Seats.{away}
 use Rattle.lock.specs.States.{BoxState, seat_at, with_seat}
 use Rattle.gate.proofs.Phases.{Phase, Stand, Marks, Cells, WayOk, CellsOk}
-use Rattle.gate.proofs.Gates.{still}
-use Rattle.relation.proofs.Views.{Ghost, stands_in, stands_at, stand_of, shown, stand_at}
+use Rattle.relation.proofs.Views.{Ghost, stands_at, stand_of, stand_at}
 use Rattle.relation.proofs.Relation.{Related}
 use Rattle.relation.proofs.Links.{shown-nobody, shown-here, shown-inside}
 use Rattle.relation.proofs.Polls.{Next}

@@ -8,7 +8,7 @@
 --     stand_at b G k g j who stands at way j of gate g, which has height k
 --     low_of, high_of  a seat occupies the gates of its path from one height up to another
 --     Occupies b p k   seat p occupies the gate that it meets at height k
-use Rattle.std.proofs.Common.{◌≡◌, ℕ, ◌+◌, ◌-◌, ◌/◌, ◌%◌, ◌<◌, ◌≤◌, Bool, true, false, cond, ◌&&◌, eqb, get_or}
+use Rattle.std.proofs.Common.{ℕ, ◌-◌, ◌/◌, ◌%◌, ◌≤◌, cond, ◌&&◌, eqb, get_or}
 use Rattle.layout.specs.declared.path.Meeting.{Meeting}
 use Rattle.layout.specs.Gates.{heights_of, gate_of, way_of, cell_of}
 use Rattle.seats.specs.declared.seat.Seat.{Seat}

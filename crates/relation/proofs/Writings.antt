@@ -2,29 +2,28 @@
 --     Writing                                  the store after some writes to the gate, with what they make of its cells and marks
 --     writes_nothing, writes-count, and so on  one write more
 --     go, high_plain                           a step that leaves the seat standing at the gate
-use Rattle.std.proofs.Common.{◌≡◌, ℕ, ◌+◌, ◌-◌, ◌*◌, ◌/◌, ◌%◌, ◌^◌, ◌<◌, ◌≤◌, Bool, true, false, cond, eqb, ◌≢◌, ◌⊎◌, List, length, sym, refl, ap, ◌∙◌, subst, inl, inr, mul-le-mul_right, arith}
+use Rattle.std.proofs.Common.{◌≡◌, ℕ, ◌+◌, ◌/◌, ◌%◌, ◌^◌, ◌<◌, ◌≤◌, cond, eqb, ◌≢◌, ◌⊎◌, List, length, sym, refl, ap, ◌∙◌, subst, inl, inr, mul-le-mul_right, arith}
 use Rattle.std.proofs.lemmas.Bool.Decides.{nat_tests}
 use Rattle.layout.specs.declared.path.Meeting.{Meeting}
-use Rattle.layout.specs.Gates.{heights_of, seats_of, gates_of, cells_of, gate_of, way_of, gate_cells, cell_of}
+use Rattle.layout.specs.Gates.{heights_of, gate_of, way_of, gate_cells}
 use Rattle.layout.specs.Meetings.{meeting}
 use Rattle.seats.specs.declared.seat.Seat.{Seat}
 use Rattle.seats.specs.declared.state.State.{State}
 use Rattle.seats.specs.declared.state.State.TheVariants.{Away, Climbing, Holding, Leaving}
-use Rattle.seats.specs.Lawful.{lawful_open}
-use Rattle.seats.specs.Places.{state_number, place_number}
+use Rattle.seats.specs.Places.{place_number}
 use Rattle.steps.specs.declared.cells.Cell.TheVariants.{Count, SyncOne, SyncTwo, Pawns, Apply, Role}
 use Rattle.steps.specs.Outcomes.{put}
 use Rattle.steps.specs.Pawns.{lane}
 use Rattle.lock.specs.States.{BoxState, seat_at}
 use Rattle.gate.proofs.Phases.{Phase, Stand, Marks, Cells, WayOk, CellsOk}
-use Rattle.gate.proofs.Gates.{Gate, Height, Turn, Calm, turn_from_calm, Nothing, still, counts, syncs_one, syncs_two, applies, plays, lists}
+use Rattle.gate.proofs.Gates.{Height, Calm, turn_from_calm, Nothing, still, counts, syncs_one, syncs_two, applies, plays, lists}
 use Rattle.relation.proofs.Geometry.{gate_inside}
-use Rattle.relation.proofs.Views.{word_of, cells_at, marks_at, Ghost, stands_at, stand_of, stand_at, low_of, reach_of, high_in, high_of, high_at}
+use Rattle.relation.proofs.Views.{cells_at, marks_at, Ghost, stands_at, stand_of, low_of, reach_of, high_in, high_of, high_at}
 use Rattle.relation.proofs.Relation.{Late, Sized, GateAt}
-use Rattle.relation.proofs.GateWords.{Words, written, words_of, cells_in, marks_in, Wrote, wrote, wrote_nothing}
+use Rattle.relation.proofs.GateWords.{Words, written, words_of, marks_in, Wrote, wrote, wrote_nothing}
 use Rattle.relation.proofs.Alters.{Alters, alters_nothing, alters-count, alters-sync-one, alters-sync-two, alters-role, alters-apply, alters-pawns, alters-told, alters-as}
 use Rattle.relation.proofs.Acting.{Acts, way_inside}
-use Rattle.relation.proofs.Polls.{Next, Goes, Rests, SyncKept, Known, MoveOf, stand_was, stays, rests-inside, rests-gone, begins}
+use Rattle.relation.proofs.Polls.{Next, Goes, Rests, SyncKept, Known, MoveOf, stand_was, stays, rests-inside}
 
 -- what a seat occupies where it does not wait as a queen, and has not just won
 reach_plain : (w n r v : ℕ) (t : Seat) → n ≢ 2 → (n < 14) ⊎ (27 < n) → reach_of w n r v t ≡ t.height

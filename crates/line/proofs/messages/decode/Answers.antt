@@ -3,4 +3,4 @@ use Rattle.line.proofs.messages.decode.Goals as goal
 
 pub returns : goal.returns
 unfolding message_of
-returns c = c.decode-here.ensures
+returns c = c.decode_here.ensures

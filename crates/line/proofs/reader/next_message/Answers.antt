@@ -7,15 +7,15 @@ pub returns-then-start-input : goal.returns-then-start-input
 unfolding next_of place_of
 returns-then-start-input c = search (rules, length-drop)
 
-pub next-in-requires : goal.next-in-requires
-next-in-requires c = search (rules, length-drop, length-take)
+pub next_in-requires : goal.next_in-requires
+next_in-requires c = search (rules, length-drop, length-take)
 
 pub returns : goal.returns
 unfolding next_of place_of
 returns c =
     let e = take_rest c.args.input.now c.args.place.now.at in
     record {
-      answer = c.next-in.ensures.answer ∙ ap next_at e;
-      place = c.next-in.ensures.place ∙ ap (place_at c.args.place.now.at) e;
-      short = c.next-in.ensures.short;
+      answer = c.next_in.ensures.answer ∙ ap next_at e;
+      place = c.next_in.ensures.place ∙ ap (place_at c.args.place.now.at) e;
+      short = c.next_in.ensures.short;
     }

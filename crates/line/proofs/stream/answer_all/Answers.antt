@@ -2,7 +2,7 @@ use Rattle.std.proofs.Common.{arith}
 use Rattle.lock.specs.States.{state_of}
 use Rattle.line.proofs.CutLaws.{cuts}
 use Rattle.line.proofs.PauseLaws.{stops_left}
-use Rattle.line.proofs.StreamLaws.{begins, ends, stops, goes_on}
+use Rattle.line.proofs.StreamLaws.{begins, ends, stops, goes_on_lem}
 use Rattle.line.proofs.stream.answer_all.Goals as goal
 
 pub loop-turn-init : goal.loop-turn-init
@@ -21,7 +21,7 @@ returns-in-Some g c =
 
 pub loop-turn-preserved : goal.loop-turn-preserved
 loop-turn-preserved g c =
-    (goes_on c.loop-turn.turn _ c.args.input.now _ _ c.loop-turn.invariant.0 c.loop-turn-test.true _ _ _ _ _ c.advance-step.ensures.turns c.in-default.is, c.advance-step.ensures.within)
+    (goes_on_lem c.loop-turn.turn _ c.args.input.now _ _ c.loop-turn.invariant.0 c.loop-turn-test.true _ _ _ _ _ c.advance-step.ensures.turns c.in_default.is, c.advance-step.ensures.within)
 
 pub returns : goal.returns
 returns g c =
