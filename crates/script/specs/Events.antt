@@ -1,6 +1,6 @@
 -- What polls make of seats. Assumes nothing.
 --     event_of a b  what an accepted poll made of a seat that it took from the place a to the place b
-use Rattle.std.specs.Prelude.{ℕ, Bool, cond, ◌&&◌, Some, None, Option, ◌==◌}
+use Rattle.std.specs.Prelude.{ℕ, cond, Some, None, Option, ◌==◌}
 use Rattle.seats.specs.declared.place.Place.{Place}
 use Rattle.seats.specs.Places.{place_number}
 use Rattle.script.specs.declared.event.Event.{Event}

@@ -1,10 +1,10 @@
-use Rattle.std.proofs.Common.{◌≡◌, ◌≤◌, true, false, eqb, length, get_or, Ok, Err, ◌∙◌, arith, rules}
+use Rattle.std.proofs.Common.{◌≡◌, ◌≤◌, true, false, eqb, length, get_or, Ok, Err, ◌∙◌, rules}
 use Rattle.script.specs.Fields.{digit_of, most_of}
 use Rattle.script.proofs.FieldLaws.{digits_more, digits_stop, digits_all, field_empty, field_digits}
 use Rattle.script.proofs.fields.field.Goals as goal
 
-pub returns-then-is-empty : goal.returns-then-is-empty
-returns-then-is-empty c =
+pub returns-then-is_empty : goal.returns-then-is_empty
+returns-then-is_empty c =
     let h : eqb (length c.args.word.now) 0 ≡ true = search rules in
     record { value = field_empty _ _ h; bound = tt }
 

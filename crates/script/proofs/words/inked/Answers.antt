@@ -1,6 +1,5 @@
-use Rattle.std.proofs.Common.{◌≡◌, ◌+◌, ◌≤◌, drop, sym, subst, arith, rules}
-use Rattle.script.specs.Words.{inked_of}
-use Rattle.script.proofs.WordLaws.{ink_end, inked_more, inked_all}
+use Rattle.std.proofs.Common.{◌+◌, ◌≤◌, arith, rules}
+use Rattle.script.proofs.WordLaws.{inked_more, inked_all}
 use Rattle.script.proofs.words.inked.Goals as goal
 
 pub loop-at-preserved : goal.loop-at-preserved

@@ -1,4 +1,4 @@
-use Rattle.std.proofs.Common.{◌≡◌, ◌<◌, ◌≤◌, true, false, eqb, length, get_or, sym, arith, rules}
+use Rattle.std.proofs.Common.{◌≡◌, ◌<◌, true, false, eqb, length, get_or, sym, arith, rules}
 use Rattle.script.proofs.WordLaws.{same_more, same_stop, same_all, same_lengths}
 use Rattle.script.proofs.words.same.Goals as goal
 
