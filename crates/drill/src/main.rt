@@ -13,6 +13,7 @@ use laws::{Got, PerformFault, perform};
 use row::{Report, note_of};
 use script::{Script, read_script};
 use seats::Seat;
+use std::process::ExitCode;
 use std::{env, fs};
 use store::{Image, Memory, Store};
 
@@ -30,12 +31,13 @@ enum Detail {
     Summary,
 }
 
-fn main(rt: HostRuntime) -> anyhow::Result<()> {
+fn main(rt: HostRuntime) -> ExitCode {
     let Err(fault) = run(&rt) else {
-        return Ok(());
+        return ExitCode::SUCCESS;
     };
-    eprintln!(rt; "drill: {fault}")?;
-    Err(fault)
+    // an Err would be told a second time, and there is nowhere left to say that it could not be told
+    let _ = eprintln!(rt; "drill: {fault}");
+    ExitCode::FAILURE
 }
 
 // Does what the words of the command line say.
