@@ -1,6 +1,6 @@
 ghost use Rattle.std.specs.Prelude.{◌≡◌, ◌≤◌, true, false, MatchOption};
 ghost use Rattle.layout.specs.Gates.{heights_of};
-ghost use Rattle.layout.specs.Refusals.{refusal_of, unfit as unfitWord};
+ghost use Rattle.layout.specs.Refusals.{refusal_of, unfit as unfit_word};
 ghost use Rattle.seats.specs.Places.{within};
 ghost use Rattle.steps.specs.Codes.{cell_at};
 ghost use Rattle.steps.specs.Outcomes.{captured, closes};
@@ -59,7 +59,7 @@ pub(crate) fn handed_height(word: u64, height: u8, at: Meeting) -> Option<u8>
 // The fault of an unfit word in a cell.
 pub(crate) fn unfit(at: Meeting, cell: Cell) -> BoxFault
     requires { cell_at at cell ≤ 252 }
-    ensures { refusal_of result ≡ unfitWord at.seat.0 at.height (cell_at at cell) }
+    ensures { refusal_of result ≡ unfit_word at.seat.0 at.height (cell_at at cell) }
 {
     BoxFault::Unfit {
         seat: at.seat,
