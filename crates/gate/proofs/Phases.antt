@@ -4,7 +4,7 @@
 --     Marks           what the cells of a way hold: its Apply, its Role and its pair in the pawn word
 --     Cells           Count, Sync1 and Sync2
 --     Phase           idle; solo k: a king; pair k q: king and queen; clean r a: r clears up, a closed first; free r: r may
---                 promote; drain r: nobody waits; prom p: way p is promoted
+--                     promote; drain r: nobody waits; prom p: way p is promoted
 --     CellsOk, WayOk  what the cells and each way show in a phase
 --     two_inside      two ways of a gate that are both inside are one
 use Rattle.std.proofs.Common.{◌≡◌, ℕ, ◌+◌, ◌<◌, ◌≤◌, ◌≢◌, ◌⊎◌, arith}

@@ -1,9 +1,9 @@
 -- The moves of one gate: every step that is taken at it keeps what each phase says of the cells, of the way that takes
 -- the step, and of the others. Assumes nothing.
 --     Height       way i of a gate at height h
---     NAME-own     the move NAME, named by what its step does: the cells, and the way that takes it
---     NAME-others  the other ways, where the move changes the cells or the phase
---     after-NAME   the phase afterwards, where it changes
+--     NAME_own     the move NAME, named by what its step does: the cells, and the way that takes it
+--     NAME_others  the other ways, where the move changes the cells or the phase
+--     after_NAME   the phase afterwards, where it changes
 use Rattle.std.proofs.Common.{◌≡◌, ℕ, ◌+◌, ◌-◌, ◌<◌, ◌≤◌, cond, eqb, ◌≢◌, ◌⊎◌, inl, inr, arith}
 use native.Mathlib.Decide.{ℕ_discrete}
 use Rattle.laws.proofs.Phases.{Way, Cells, Phase, idle, solo, pair, clean, free, drain, prom, WayOk, CellsOk}

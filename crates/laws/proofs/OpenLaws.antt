@@ -1,13 +1,13 @@
 -- The next seat that applies to an empty box and is polled alone with coin 0 holds after three polls for each height, and
 -- after no fewer. Assumes nothing; that the gates of an empty box are clear is a premise.
---     Clear b p k                            nobody has come to the gate that seat p meets at height k, and nobody stands on its way
---     EmptyClear b                           if all seats are away, every gate is clear for every seat
---     accepted_run                           a run comes to the same box as its accepted calls alone
---     word_kept, clear_kept                  a poll leaves the gates above, and they stay clear
---     Course b s p n                         how far seat p, with the record s, has come by n such polls: it enters a gate, races for its role,
---                         marks it as won, or holds
---     course-apply, course-poll, course-run  it begins with the application, and goes on with each poll
---     open_next                              what the law of runs says of an empty box
+--     Clear b p k            nobody has come to the gate that seat p meets at height k, and nobody stands on its way
+--     EmptyClear b           if all seats are away, every gate is clear for every seat
+--     accepted_run           a run comes to the same box as its accepted calls alone
+--     word_kept, clear_kept  a poll leaves the gates above, and they stay clear
+--     Course b s p n         how far seat p, with the record s, has come by n such polls: it enters a gate, races for its role,
+--                            marks it as won, or holds
+--     course-apply, course-poll, course-run   it begins with the application, and goes on with each poll
+--     open_next              what the law of runs says of an empty box
 use Rattle.std.proofs.Common.{◌≡◌, ℕ, ◌+◌, ◌*◌, ◌<◌, ◌≤◌, true, false, cond, ◌≢◌, List, [], ◌∷◌, length, get_or, set, is_ok, Ok, Err, Result, sym, refl, ap, ◌∙◌, subst, ⊎_elim, arith}
 use Rattle.std.proofs.lemmas.List.{get_or-set_same, get_or-set_other}
 use Rattle.std.proofs.lemmas.Bool.{cases_eq, cond-true, cond-false, eq-eqb, ne_eqb}

@@ -3,7 +3,7 @@
 --     Way             what one way shows: who stands there and how far it is, and its Apply, its Role and its pawn pair
 --     Cells           Count, Sync1 and Sync2
 --     Phase           idle; solo k: a king; pair k q: king and queen; clean r a: r clears up, a closed first; free r: r may
---                 promote; drain r: nobody waits; prom p: way p is promoted
+--                     promote; drain r: nobody waits; prom p: way p is promoted
 --     CellsOk, WayOk  what the cells and each way show in a phase
 use Rattle.std.proofs.Common.{◌≡◌, ℕ, ◌+◌, ◌<◌, ◌≤◌, ◌≢◌, ◌⊎◌}
 

@@ -7,7 +7,7 @@
 --     Prompt cs b             giving up and leaving end within their limits of polls
 --     accepted_of cs b        the calls of cs that are accepted
 --     OpenEach cs b           whenever all seats are away, the next seat that applies and is polled alone with coin 0 holds
---                            after exactly three polls for each height, and after no fewer
+--                             after exactly three polls for each height, and after no fewer
 --     Law cs b                all of this, of the calls cs from the box b
 use Rattle.std.specs.Prelude.{◌≡◌, ℕ, ◌+◌, ◌-◌, ◌*◌, ◌<◌, ◌≤◌, Bool, true, false, cond, ◌&&◌, ◌||◌, ◌≢◌, List, [], ◌∷◌, length, is_ok, Ok, Err, Result, ◌==◌, slice_index}
 use Rattle.layout.specs.declared.fault.Refusal.{Refusal}

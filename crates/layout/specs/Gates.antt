@@ -1,10 +1,10 @@
 -- Seats, ways, gates and cells of a box of w ways, all by their numbers. The gates form a tree of w - 1 heights: seat p
 -- meets one gate at each height, by one of its w ways. Assumes nothing; meant for w of 2, 3 and 4.
---     heights_of w, seats_of w, gates_of w, cells_of w  how many there are
---     gates_below w h                                   how many gates the heights below h have: the number of the first gate of height h
---     gate_of w p h                                     the gate that seat p meets at height h
---     way_of w p h                                      the way by which it meets that gate
---     cell_of w g k                                     cell k of gate g; count_cell, sync_one, sync_two, pawns_cell, apply_cell j and role_cell w j are such k
+--     heights_of w, seats_of w, gates_of w, cells_of w   how many there are
+--     gates_below w h  how many gates the heights below h have: the number of the first gate of height h
+--     gate_of w p h    the gate that seat p meets at height h
+--     way_of w p h     the way by which it meets that gate
+--     cell_of w g k    cell k of gate g; count_cell, sync_one, sync_two, pawns_cell, apply_cell j and role_cell w j are such k
 use Rattle.std.specs.Prelude.{ℕ, zero, suc, ◌+◌, ◌-◌, ◌*◌, ◌/◌, ◌%◌, ◌^◌}
 
 abbrev pub heights_of : ℕ → ℕ

@@ -1,6 +1,6 @@
 -- What each refusal of the line says. Assumes nothing.
 --     told_to k f  the refusal that tells the fault f in reply to a message of kind k: the kind byte of the reply, the
---                   number, the seat, the height and the cell
+--                  number, the seat, the height and the cell
 use Rattle.std.specs.Prelude.{ℕ}
 use Rattle.layout.specs.Refusals.{refusal, refusal_of}
 use Rattle.line.specs.declared.fault.LineFault.{LineFault}

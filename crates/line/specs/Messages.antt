@@ -3,7 +3,7 @@
 --     request_of m   what the message m asks; request_in, of one that may not have been read
 --     kind_of q      the kind byte of a request
 --     message_of bs  what the body bs asks: the kind is known (33), and the length is right for the kind (34);
---                       message_at is the same, open
+--                    message_at is the same, open
 --     Short r        the text of a message that has one is at most 80 bytes long
 use Rattle.std.specs.Prelude.{ℕ, ◌+◌, ◌*◌, ◌≤◌, Bool, cond, ◌&&◌, List, length, drop, Ok, Err, Result, ◌==◌, nat_le, slice_index}
 use Rattle.line.specs.declared.messages.Message.{Message}

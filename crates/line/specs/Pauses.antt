@@ -2,7 +2,7 @@
 --     Awaits e rest  of an input that has ended (e) nothing is left; of another, no whole message
 --     left_by p      what holds after a stop for the reason p
 --     Left           that, that place and replies lie inside their bytes, and that some message was answered if there
---                        was room for a reply at first, and is no more
+--                    was room for a reply at first, and is no more
 use Rattle.std.specs.Prelude.{◌≡◌, ℕ, ◌<◌, ◌≤◌, Bool, true, false, List, length, drop}
 use Rattle.line.specs.declared.stream.Pause.{Pause}
 use Rattle.line.specs.declared.stream.Pause.TheVariants.{Input, Room, Done}

@@ -2,7 +2,7 @@
 --     reply_to b q          the reply to the request q at the box b, in its frame
 --     refusal_to f          the reply where no message could be read
 --     Answering             what an answer is: whether there is a reply and how long it is, the box afterwards, the
---                            reader's place and the reply memory
+--                           reader's place and the reply memory
 --     answered b at bs out  the answer to the next message of the input bs from the place at, over the reply memory out
 --     Answers, Responds     a function answered, and left everything, as these say
 use Rattle.std.specs.Prelude.{◌≡◌, ℕ, cond, List, length, drop, Some, None, Ok, Err, Option, Result, nat_lt}

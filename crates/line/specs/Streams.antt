@@ -1,7 +1,7 @@
 -- Input that arrives in parts: every whole message is answered, one after another. Assumes nothing.
 --     waits_for rest     the rest of the input is no whole message yet, and more bytes may make it one
 --     Turn               what one turn leaves: why it stops, if it does, how many reply bytes there are, the box, the
---                            reader's place and the reply memory
+--                        reader's place and the reply memory
 --     turned e bs t      one message more after the turn t, of an input bs that has ended (e) or not
 --     streamed n e bs t  at most n turns more
 --     Turns              a function did such a turn, or several

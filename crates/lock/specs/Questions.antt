@@ -1,9 +1,9 @@
 -- The questions that a call asks in turn: each gives the refusal of the first that is answered by no. Assumes nothing.
---     open_refusal w n k                              1 to 3, for an opening with w ways over n seats and k cells
---     reach_refusal w n k p                           2 to 4: the store has all the cells, the table all the seats, and p is one of them
---     enter_refusal b p                               2 to 5: the record of seat p is lawful too
---     own_refusal b p n                               2 to 6: the seat takes part, and n is its passage
---     apply_refusal, give_up_refusal, holder_refusal  all those of an application, a give-up, and a leave or a publish
+--     open_refusal w n k     1 to 3, for an opening with w ways over n seats and k cells
+--     reach_refusal w n k p  2 to 4: the store has all the cells, the table all the seats, and p is one of them
+--     enter_refusal b p      2 to 5: the record of seat p is lawful too
+--     own_refusal b p n      2 to 6: the seat takes part, and n is its passage
+--     apply_refusal, give_up_refusal, holder_refusal   all those of an application, a give-up, and a leave or a publish
 use Rattle.std.specs.Prelude.{ℕ, Bool, not, ◌&&◌, length, Some, None, Option, ◌==◌, nat_le, nat_lt}
 use Rattle.layout.specs.declared.fault.Refusal.{Refusal}
 use Rattle.layout.specs.Boxes.{ways_refusal}

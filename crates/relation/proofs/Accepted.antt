@@ -1,7 +1,7 @@
 -- What the acceptance of a call says. Assumes nothing.
---     Entered b p                                                                        questions 2 to 5 were answered by yes
---     apply_accepted, give_up_accepted, leave_accepted, publish_accepted, poll_accepted  for each call, by a record of
---                                 what it asked and of the box afterwards
+--     Entered b p     questions 2 to 5 were answered by yes
+--     apply_accepted, give_up_accepted, leave_accepted, publish_accepted, poll_accepted
+--                     for each call, by a record of what it asked and of the box afterwards
 use Rattle.std.proofs.Common.{◌≡◌, ℕ, ◌+◌, ◌<◌, ◌≤◌, Bool, true, false, not, ◌&&◌, ◌||◌, ltb, leb, ◌⊎◌, List, length, Some, None, Ok, Err, Option, Result, sym, refl, ap, ◌∙◌, inl, inr, ⊎_elim, arith}
 use Rattle.std.proofs.lemmas.Bool.{and_parts, or_cases, leb-true, ltb-true, eqb-true, not-true}
 use Rattle.layout.specs.declared.fault.Refusal.{Refusal}

@@ -1,8 +1,9 @@
 -- What a write to the cells of a gate makes of its cells and of the marks of its ways. Assumes nothing.
---     Alters                                                                                     the words x of a gate, against those before: the cells, the marks of way i, and those of the others
---     alters_nothing, alters-count, alters-sync-one, alters-sync-two, alters-role, alters-apply  by the cell that is written
---     alters-pawns                                                                               the pawn word; alters-told, Apply of another way
---     alters-as                                                                                  the same marks, said otherwise
+--     Alters          the words x of a gate, against those before: the cells, the marks of way i, and those of the others
+--     alters_nothing, alters-count, alters-sync-one, alters-sync-two, alters-role, alters-apply
+--                     by the cell that is written
+--     alters-pawns    the pawn word; alters-told, Apply of another way
+--     alters-as       the same marks, said otherwise
 use Rattle.std.proofs.Common.{◌≡◌, ℕ, ◌/◌, ◌%◌, ◌^◌, ◌<◌, Bool, cond, eqb, ◌≢◌, sym, refl, ap, ◌∙◌, subst}
 use native.Mathlib.Decide.{ℕ_discrete}
 use Rattle.std.proofs.lemmas.Bool.{eq-eqb, ne_eqb}

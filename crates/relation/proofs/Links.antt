@@ -1,9 +1,9 @@
 -- A step of one seat at the gate that it meets at its height, after which no way but its own has another occupant. Assumes
 -- nothing.
---     shown-nobody, shown-here, shown-inside  what an occupant shows
---     turned_ghost                            another phase for one gate, and another occupant for one of its ways
---     OwnStep                                 what such a step has to show
---     own_related                             the relation holds afterwards
+--     shown-nobody, shown-here, shown-inside   what an occupant shows
+--     turned_ghost  another phase for one gate, and another occupant for one of its ways
+--     OwnStep       what such a step has to show
+--     own_related   the relation holds afterwards
 use Rattle.std.proofs.Common.{◌≡◌, ℕ, ◌+◌, ◌-◌, ◌<◌, ◌≤◌, Bool, cond, eqb, ◌≢◌, ◌⊎◌, List, length, sym, refl, ap, ◌∙◌, subst, inl, inr, arith}
 use native.Mathlib.Decide.{ℕ_discrete}
 use Rattle.std.proofs.lemmas.Bool.{eq-eqb, ne_eqb}

@@ -1,9 +1,9 @@
 -- Who stands at a way of a gate, and what the phase of a gate says of who acts at it. Assumes nothing.
---     Stander                                                  the seat that stands at way j of a gate of height k
---     stander                                                  somebody does, where the way shows a place
---     next_same                                                a box that is as it was
---     empty_way                                                a way with an empty Apply has nobody
---     queen_waits, queen_accepts, role_released, first_closed  what is read at 14, 27, 35 and 59
+--     Stander    the seat that stands at way j of a gate of height k
+--     stander    somebody does, where the way shows a place
+--     next_same  a box that is as it was
+--     empty_way  a way with an empty Apply has nobody
+--     queen_waits, queen_accepts, role_released, first_closed   what is read at 14, 27, 35 and 59
 use Rattle.std.proofs.Common.{◌≡◌, ℕ, ◌+◌, ◌-◌, ◌<◌, ◌≤◌, ◌≢◌, ◌⊎◌, sym, ap, ◌∙◌, subst, arith}
 use native.Mathlib.Decide.{ℕ_discrete}
 use Rattle.std.proofs.lemmas.List.{set-get_or}

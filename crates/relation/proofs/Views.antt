@@ -2,9 +2,9 @@
 --     word_of b g c    the word in a cell of gate g
 --     cells_at b g     Count, Sync1 and Sync2 of gate g; marks_at b g j, what the cells of its way j hold
 --     Ghost            what a proof carries along: the phase of each gate, and who occupies each way: 0 for nobody, else the
---                       seat plus 1
+--                      seat plus 1
 --     stands_at s      the height of the gate at which the seat acts, 0 for none: at place 2 it has not entered the gate,
---                       and at place 35 it has yet to begin to give it back
+--                      and at place 35 it has yet to begin to give it back
 --     stand_at b G k g j who stands at way j of gate g, which has height k
 --     low_of, high_of  a seat occupies the gates of its path from one height up to another
 --     Occupies b p k   seat p occupies the gate that it meets at height k

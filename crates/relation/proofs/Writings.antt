@@ -1,7 +1,7 @@
 -- A seat that acts at a gate: the words it finds there, what it writes, and what the gate's phase says of it. Assumes nothing.
---     Writing                                  the store after some writes to the gate, with what they make of its cells and marks
---     writes_nothing, writes-count, and so on  one write more
---     go, high_plain                           a step that leaves the seat standing at the gate
+--     Writing         the store after some writes to the gate, with what they make of its cells and marks
+--     writes_nothing, writes-count, and so on   one write more
+--     go, high_plain  a step that leaves the seat standing at the gate
 use Rattle.std.proofs.Common.{◌≡◌, ℕ, ◌+◌, ◌/◌, ◌%◌, ◌^◌, ◌<◌, ◌≤◌, cond, eqb, ◌≢◌, ◌⊎◌, List, length, sym, refl, ap, ◌∙◌, subst, inl, inr, mul-le-mul_right, arith}
 use Rattle.std.proofs.lemmas.Bool.Decides.{nat_tests}
 use Rattle.layout.specs.declared.path.Meeting.{Meeting}

@@ -1,6 +1,6 @@
 -- Numbers, digit by digit. Assumes nothing.
---     digits_more, digits_stop, digits_all  one digit more, a byte that stops the reading, the end of the word
---     field_empty, field_digits             a word without bytes, and one with some
+--     digits_more, digits_stop, digits_all   one digit more, a byte that stops the reading, the end of the word
+--     field_empty, field_digits  a word without bytes, and one with some
 use Rattle.std.proofs.Common.{◌≡◌, ℕ, ◌+◌, ◌<◌, ◌≤◌, true, false, cond, eqb, List, length, get_or, drop, Ok, Err, Result, sym, ap, ◌∙◌}
 use Rattle.std.proofs.lemmas.List.{at_drop_more, at_drop_all}
 use Rattle.script.specs.declared.part.Part.{Part}

@@ -1,9 +1,9 @@
 -- Whole scripts, row by row. Assumes nothing.
---     pushed_more                           one element more of a value that is pushed again and again
---     rows_first                            the rows of a text are its first row and those of what is behind it
---     row_bound                             a row ends where the text ends, or before
---     stopped_told, ended_told              what a reading answers that stops, or comes to the end
---     gather-more, gather-stop, gather-all  one row more, a row that is wrong, the end of the text
+--     pushed_more               one element more of a value that is pushed again and again
+--     rows_first                the rows of a text are its first row and those of what is behind it
+--     row_bound                 a row ends where the text ends, or before
+--     stopped_told, ended_told  what a reading answers that stops, or comes to the end
+--     gather-more, gather-stop, gather-all   one row more, a row that is wrong, the end of the text
 use Rattle.std.proofs.Common.{◌≡◌, ℕ, suc, ◌+◌, ◌-◌, ◌<◌, ◌≤◌, Bool, true, false, cond, not, eqb, List, [], ◌∷◌, ◌++◌, length, take, drop, replicate, None, Ok, Err, Result, sym, refl, ap, ◌∙◌, arith, MatchResult}
 use Rattle.std.proofs.lemmas.List.{append_assoc, drop_all, drop-drop, length-drop, length-take-le, replicate_more}
 use Rattle.script.specs.declared.words.Kind.TheVariants.{Row}

@@ -1,8 +1,8 @@
 -- Texts, byte by byte. Assumes nothing.
---     leading_more, leading_stop, leading_all  one byte more of the kind, another byte, the end of the text
---     inked_more, inked_all                    one byte more, the end of the text
---     word_split, rest_split                   a text cut behind its first word
---     same_more, same_stop, same_lengths       one byte more, a byte that differs, lengths that differ
+--     leading_more, leading_stop, leading_all   one byte more of the kind, another byte, the end of the text
+--     inked_more, inked_all   one byte more, the end of the text
+--     word_split, rest_split  a text cut behind its first word
+--     same_more, same_stop, same_lengths   one byte more, a byte that differs, lengths that differ
 use Rattle.std.proofs.Common.{◌≡◌, ℕ, suc, ◌+◌, ◌<◌, ◌≤◌, Bool, true, false, cond, ◌&&◌, eqb, List, [], ◌∷◌, length, get_or, take, drop, sym, refl, ap, ◌∙◌, arith}
 use Rattle.std.proofs.lemmas.List.{at_drop_more, at_drop_all}
 use Rattle.script.specs.declared.words.Kind.{Kind}

@@ -1,7 +1,7 @@
 -- The places at which king and queen meet: the second to come frees the gate. Assumes nothing.
---     race_to_close_step 56                                                  the first to put its way into Sync2 is done with the gate
---     clear_sync_one_step 58, read_sync_two_step 59, clear_sync_two_step 60  the second clears both, and keeps the way of the first
---     strike_out_step 61                                                     the first is struck out of the pawn word, where a collect may have put it
+--     race_to_close_step 56  the first to put its way into Sync2 is done with the gate
+--     clear_sync_one_step 58, read_sync_two_step 59, clear_sync_two_step 60   the second clears both, and keeps the way of the first
+--     strike_out_step 61     the first is struck out of the pawn word, where a collect may have put it
 use Rattle.std.specs.Prelude.{ℕ, ◌+◌, ◌-◌, cond, List}
 use Rattle.layout.specs.declared.path.Meeting.{Meeting}
 use Rattle.seats.specs.declared.seat.Seat.{Seat}

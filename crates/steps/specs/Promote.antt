@@ -1,8 +1,8 @@
 -- The places at which a freed gate passes to a pawn, or opens. Assumes nothing.
---     strike_self_step 64                     oneself out of the pawn word
---     promote_pawn_step 65                    the lowest way that is REG becomes PRO
---     reset_pawns_step 67, open_gate_step 68  nobody waits: the gate opens
---     mark_promoted_step 70                   tell the promoted pawn, if its Apply still has that very passage
+--     strike_self_step 64    oneself out of the pawn word
+--     promote_pawn_step 65   the lowest way that is REG becomes PRO
+--     reset_pawns_step 67, open_gate_step 68   nobody waits: the gate opens
+--     mark_promoted_step 70  tell the promoted pawn, if its Apply still has that very passage
 use Rattle.std.specs.Prelude.{ℕ, List, Some, None, Option}
 use Rattle.layout.specs.declared.path.Meeting.{Meeting}
 use Rattle.layout.specs.declared.ids.WayId.{WayId}

@@ -27,7 +27,7 @@ pub(crate) fn race_to_close<S: Store>(
     Ok(())
 }
 
-// Place 58: forgets the hand_over.
+// Place 58: forgets the hand-over.
 pub(crate) fn clear_sync_one<S: Store>(
     store: &mut S,
     seat: &mut Seat,
