@@ -89,3 +89,6 @@ module _ (bs : List ℕ) (k w : ℕ) (h : k < (length bs - 5) / 8) (l : w < 2 ^ 
       (λ (above : k ≤ i). word_at-put_above bs (5 + 8 * k) w (5 + 8 * i) room (omega arith)) (cases_lt i k) in
       a ∙ sym (s ∙ o))
       (cases_eq i k))
+
+-- what the functions of an image use
+pub ruleset image_steps = (length-image, get_or-image, image_put)

@@ -31,6 +31,7 @@ impl<'a> Image<'a> {
     }
 
     // The word at a position.
+    #[tactic(auto, using(crate::proofs::ImageLaws::image_steps))]
     fn word(&self, pos: usize) -> Result<u64, StoreFault>
         ensures { numbered result ≡ read_of (image_words self.now.bytes.now) pos }
     {
@@ -48,6 +49,7 @@ fn get_word(bytes: &[u8], at: usize) -> u64
 }
 
 // Puts a word into the eight bytes from `at`.
+#[tactic(auto, unfolding(crate::specs::Image::with_word))]
 fn put_word(bytes: &mut [u8], at: usize, word: u64)
     requires { at + 8 ≤ length bytes.old }
     ensures { bytes.new ≡ with_word bytes.old at word }
@@ -62,6 +64,7 @@ fn place(len: usize, pos: usize) -> Option<usize>
     (pos < len.saturating_sub(5) / 8).then(|| 5 + 8 * pos)
 }
 
+#[tactic(auto, using(crate::proofs::ImageLaws::image_steps))]
 impl Store for Image<'_> {
     ghost words = { λ m. image_words m.bytes.now };
 
