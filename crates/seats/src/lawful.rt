@@ -1,6 +1,6 @@
 ghost use Rattle.std.specs.Prelude.{◌≡◌, ◌&&◌, nat_le};
 ghost use Rattle.layout.specs.Gates.{heights_of};
-ghost use Rattle.seats.specs.Lawful.{blank, ranged_notes, ranged, mark_fits, place_fits, lawful};
+ghost use Rattle.seats.specs.Lawful.{ranged_notes, ranged, mark_fits, place_fits, lawful};
 ghost use Rattle.seats.specs.Places.{within};
 
 use crate::seat::Seat;
@@ -47,7 +47,7 @@ impl Seat {
     fn fits_place(&self, ways: u8) -> bool
         ensures { result ≡ place_fits ways self.now }
     {
-        // by number, since a group of places is a range of the algorithm's lines
+        // by number, here and in `fits_mark`: a group of places is a range of the algorithm's lines
         let place = self.place.number();
         match self.state {
             State::Away => false,
