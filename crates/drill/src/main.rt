@@ -10,6 +10,7 @@ use account::Account;
 use anyhow::anyhow;
 use day::Day;
 use laws::{Got, PerformFault, perform};
+use layout::Refusal;
 use row::{Report, note_of};
 use script::{Script, read_script};
 use seats::Seat;
@@ -132,7 +133,7 @@ fn play<S: Store>(rt: &HostRuntime, store: &mut S, script: &Script) -> anyhow::R
         Ok(got) => Ok(got),
         Err(PerformFault::Memory) => Err(anyhow!("no memory for the answers")),
         Err(PerformFault::Box(fault)) => {
-            let number = fault.refusal().number;
+            let number = Refusal::from(fault).number;
             Err(anyhow!(format!(in rt.alloc(); "the opening is refused with {number}")?))
         }
     }

@@ -58,7 +58,7 @@ fn note(answer: Result<u16, BoxFault>) -> Result<u16, Refusal>
 {
     match answer {
         Ok(value) => Ok(value),
-        Err(fault) => Err(fault.refusal()),
+        Err(fault) => Err(Refusal::from(fault)),
     }
 }
 

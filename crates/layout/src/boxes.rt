@@ -7,50 +7,41 @@ use crate::fault::BoxFault;
 use crate::ids::{Passage, SeatId};
 use crate::path::Path;
 use crate::record::BoxRecord;
+use crate::ways::Ways;
 
 impl BoxRecord {
     // The record of a box of that many ways, before its first passage.
     pub fn open(ways: u8) -> Result<BoxRecord, BoxFault>
-        ensures { MatchResult result (λ b. (ways_refusal ways ≡ None) × (b.ways ≡ ways) × (b.next ≡ 1)) (λ e. ways_refusal ways ≡ Some (refusal_of e)) }
+        ensures { MatchResult result (λ b. (ways_refusal ways ≡ None) × (b.ways.number ≡ ways) × (b.next ≡ 1)) (λ e. ways_refusal ways ≡ Some (refusal_of e)) }
     {
-        if ways < 2 || ways > 4 {
-            return Err(BoxFault::Ways);
-        }
+        let ways = Ways::try_from(ways)?;
         Ok(BoxRecord { ways, next: 1 })
     }
 
     // How many ways a gate has.
     pub fn ways(&self) -> u8
-        ensures { result ≡ self.now.ways }
+        ensures { result ≡ self.now.ways.number }
     {
-        self.ways
+        self.ways.number()
     }
 
     // How many seats the box has.
     pub fn seats(&self) -> usize
-        ensures { result ≡ seats_of self.now.ways }
+        ensures { result ≡ seats_of self.now.ways.number }
     {
-        match self.ways {
-            2 => 2,
-            3 => 9,
-            _ => 64,
-        }
+        self.ways.seats()
     }
 
     // How many cells the box has.
     pub fn cells(&self) -> usize
-        ensures { result ≡ cells_of self.now.ways }
+        ensures { result ≡ cells_of self.now.ways.number }
     {
-        match self.ways {
-            2 => 8,
-            3 => 40,
-            _ => 252,
-        }
+        self.ways.cells()
     }
 
     // The path of a seat, if the box has that seat.
     pub fn path(&self, seat: SeatId) -> Option<Path>
-        ensures { MatchOption result (seats_of self.now.ways ≤ seat.0) (λ p. (p.ways ≡ self.now.ways) × (p.seat ≡ seat) × (seat.0 < seats_of self.now.ways)) }
+        ensures { MatchOption result (seats_of self.now.ways.number ≤ seat.0) (λ p. (p.ways ≡ self.now.ways) × (p.seat ≡ seat) × (seat.0 < seats_of self.now.ways.number)) }
     {
         if usize::from(seat.0) >= self.seats() {
             return None;

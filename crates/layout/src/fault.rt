@@ -41,12 +41,12 @@ pub enum BoxFault {
     Store(StoreFault),
 }
 
-impl BoxFault {
-    // The refusal as it is told.
-    pub fn refusal(self) -> Refusal
-        ensures { result ≡ refusal_of self }
-    {
-        match self {
+// The refusal as it is told.
+impl From<BoxFault> for Refusal {
+    ghost from_gives = { λ e r. r ≡ refusal_of e };
+
+    fn from(fault: BoxFault) -> Refusal {
+        match fault {
             BoxFault::Ways => plain(1, SeatId(0)),
             BoxFault::FewCells(seat) => plain(2, seat),
             BoxFault::FewSeats(seat) => plain(3, seat),

@@ -1,16 +1,15 @@
-ghost use Rattle.std.specs.Prelude.{◌<◌, ◌≤◌};
+ghost use Rattle.std.specs.Prelude.{◌<◌};
 ghost use Rattle.layout.specs.Gates.{seats_of};
 
 use crate::ids::{SeatId, WayId};
+use crate::ways::Ways;
 
 // A seat's path: the gates that it meets, one at each height.
 #[derive(Clone, Copy)]
 pub struct Path {
-    pub(crate) ways: u8,
+    pub(crate) ways: Ways,
     pub(crate) seat: SeatId,
-    ghost few: { 2 ≤ ways },
-    ghost most: { ways ≤ 4 },
-    ghost known: { seat.0 < seats_of ways },
+    ghost known: { seat.0 < seats_of ways.number },
 }
 
 // A gate as a seat meets it at a height.
@@ -20,7 +19,7 @@ pub struct Meeting {
     pub height: u8,
     // the first of the gate's cells
     pub base: u16,
-    // how many ways the gate has
+    // how many ways the gate has; not a `Ways`, since `meeting` makes this record of plain numbers
     pub ways: u8,
     // the seat's way into it
     pub way: WayId,

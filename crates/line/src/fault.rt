@@ -41,7 +41,7 @@ impl LineFault {
             LineFault::Length { kind } => unnamed(kind, 34),
             LineFault::Box(fault) => LineRefusal {
                 kind,
-                refusal: fault.refusal(),
+                refusal: Refusal::from(fault),
             },
         }
     }

@@ -26,7 +26,7 @@ cleared w ts ws =
 -- an opening over the table ts and the words ws made the record b, and left the table us and the words vs
 pub record Opens (w : ℕ) (ts : List Seat) (ws : List ℕ) (b : BoxRecord) (us : List Seat) (vs : List ℕ) : Type 0 where
   pub accepted : open_refusal w (length ts) (length ws) ≡ None
-  pub ways : b.ways ≡ (cleared w ts ws).ways
+  pub ways : b.ways.number ≡ (cleared w ts ws).ways
   pub next : b.next ≡ (cleared w ts ws).next
   pub seats : us ≡ (cleared w ts ws).seats
   pub cells : vs ≡ (cleared w ts ws).cells

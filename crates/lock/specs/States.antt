@@ -18,7 +18,7 @@ pub record BoxState : Type 0 where
   pub cells : List ℕ
 
 abbrev pub state_of : BoxRecord → List Seat → List ℕ → BoxState
-state_of b ts ws = record { ways = b.ways; next = b.next; seats = ts; cells = ws }
+state_of b ts ws = record { ways = b.ways.number; next = b.next; seats = ts; cells = ws }
 
 abbrev pub seat_at : BoxState → ℕ → Seat
 seat_at b p = slice_index_or b.seats p away

@@ -15,7 +15,7 @@ pub(crate) fn reach(
     cells: usize,
     seat: SeatId,
 ) -> Result<Path, BoxFault>
-    ensures { MatchResult result (λ p. (reach_refusal gate.now.ways seats cells seat.0 ≡ None) × (p.ways ≡ gate.now.ways) × (p.seat ≡ seat) × (seat.0 < seats)) (λ e. reach_refusal gate.now.ways seats cells seat.0 ≡ Some (refusal_of e)) }
+    ensures { MatchResult result (λ p. (reach_refusal gate.now.ways.number seats cells seat.0 ≡ None) × (p.ways ≡ gate.now.ways) × (p.seat ≡ seat) × (seat.0 < seats)) (λ e. reach_refusal gate.now.ways.number seats cells seat.0 ≡ Some (refusal_of e)) }
 {
     if cells < gate.cells() {
         return Err(BoxFault::FewCells(seat));

@@ -1,7 +1,7 @@
 // A box of four ways to try calls on.
 use crate::records;
 use anyhow::anyhow;
-use layout::{BoxFault, BoxRecord, Passage, SeatId};
+use layout::{BoxFault, BoxRecord, Passage, Refusal, SeatId};
 use lock::{apply, give_up, leave, look, open, poll, publish};
 use seats::{Place, Seat};
 use store::Memory;
@@ -173,7 +173,7 @@ fn tell(rt: &HostRuntime, answer: Result<(), BoxFault>, same: bool) -> anyhow::R
     let Err(fault) = answer else {
         return Err(anyhow!("accepted"));
     };
-    let refusal = fault.refusal();
+    let refusal = Refusal::from(fault);
     let number = refusal.number;
     let seat = refusal.seat.0;
     let height = refusal.height;

@@ -49,7 +49,7 @@ pub enum Place {
 }
 
 impl Place {
-    // The place's number.
+    // The place's number. A method, since it ends chains such as `seat.place.number()`.
     pub fn number(self) -> u8
         ensures { result ≡ place_number self }
     {

@@ -72,7 +72,7 @@ impl Seat {
     {
         match self.state {
             State::Away => false,
-            State::Climbing | State::Holding => 1 <= height && height <= self.top,
+            State::Climbing | State::Holding => (1..=self.top).contains(&height),
             State::Leaving => !self.handed && self.height < height && height <= self.top,
         }
     }

@@ -17,7 +17,7 @@ pub enum State {
 }
 
 impl State {
-    // The state's number.
+    // The state's number. A method, since it ends chains such as `view.state.number()`.
     pub fn number(self) -> u8
         ensures { result ≡ state_number self }
     {

@@ -18,7 +18,7 @@ pub fn poll_seat<S: Store>(
     passage: Passage,
     coin: u8,
 ) -> Result<State, BoxFault>
-    ensures does { Does (polled_seat path.ways path.seat.0 passage.0 coin seat.old (S.words store.old)) (told_as state_number result) (S.words store.new) seat.new }
+    ensures does { Does (polled_seat path.ways.number path.seat.0 passage.0 coin seat.old (S.words store.old)) (told_as state_number result) (S.words store.new) seat.new }
     ensures same { Unchanged result (S.words store.new) (S.words store.old) seat.new seat.old }
 {
     let due = due(store.size(), seat, path, passage, coin)?;
@@ -41,7 +41,7 @@ fn due(
     passage: Passage,
     coin: u8,
 ) -> Result<DuePoll, BoxFault>
-    ensures { MatchResult result (λ d. Due path.ways path.seat.0 passage.0 coin seat.now size d.at d.coin) (λ e. poll_refusal path.ways path.seat.0 passage.0 coin seat.now size ≡ Some (refusal_of e)) }
+    ensures { MatchResult result (λ d. Due path.ways.number path.seat.0 passage.0 coin seat.now size d.at d.coin) (λ e. poll_refusal path.ways.number path.seat.0 passage.0 coin seat.now size ≡ Some (refusal_of e)) }
 {
     let coin = ask(size, seat, path, passage, coin)?;
     let Some(at) = path.meets(seat.height) else {
@@ -52,7 +52,7 @@ fn due(
 
 // The questions about the seat, in turn. The store is asked for here too, so that no step stops half-way.
 fn ask(size: usize, seat: &Seat, path: Path, passage: Passage, coin: u8) -> Result<Coin, BoxFault>
-    ensures { MatchResult result (λ c. Asked path.ways path.seat.0 passage.0 coin seat.now size c) (λ e. poll_refusal path.ways path.seat.0 passage.0 coin seat.now size ≡ Some (refusal_of e)) }
+    ensures { MatchResult result (λ c. Asked path.ways.number path.seat.0 passage.0 coin seat.now size c) (λ e. poll_refusal path.ways.number path.seat.0 passage.0 coin seat.now size ≡ Some (refusal_of e)) }
 {
     let id = path.seat();
     if size < path.cells() {

@@ -1,5 +1,5 @@
 -- The words of an image, one by one, and after a write of one word. Assumes nothing.
-use Rattle.std.proofs.Common.{◌≡◌, ℕ, ◌+◌, ◌-◌, ◌*◌, ◌/◌, ◌%◌, ◌^◌, ◌<◌, ◌≤◌, List, ◌++◌, length, get_or, take, drop, set, sym, ap, ◌∙◌, ⊎_elim, arith, rules}
+use Rattle.std.proofs.Common.{◌≡◌, ℕ, ◌+◌, ◌-◌, ◌*◌, ◌/◌, ◌^◌, ◌<◌, ◌≤◌, List, ◌++◌, length, get_or, take, drop, set, sym, ap, ◌∙◌, ⊎_elim, arith, rules, add-zero}
 use Rattle.std.proofs.lemmas.List.FromFn.{length-map-range_with_len, get_or-map-range_with_len}
 use Rattle.std.proofs.lemmas.List.{places, ext_get_or, get_or-set_same, get_or-set_other, length-set, length-take-le, get_or_append_left, get_or-append_right}
 use Rattle.std.proofs.lemmas.Bool.{cases_eq, cases_lt}
@@ -34,21 +34,11 @@ get_or-put_in bs at w j h l =
     ∙ (ap (λ n. get_or (bytes_of w ++ drop (at + 8) bs) n 0) s
     ∙ get_or_append_left (bytes_of w) (drop (at + 8) bs) 0 j l)
 
-pub eight : (w : ℕ) → w < 2 ^ 64 → word_at (bytes_of w) 0 ≡ w
-eight w h = omega arith
-
 -- the word that was written, and each other word
 pub word_at-put : (bs : List ℕ) (at w : ℕ) → at + 8 ≤ length bs → w < 2 ^ 64 → word_at (with_word bs at w) at ≡ w
 word_at-put bs at w h l =
-    let b0 : get_or (with_word bs at w) at 0 ≡ w / 72057594037927936 % 256 = ap (λ n. get_or (with_word bs at w) n 0) (omega arith) ∙ get_or-put_in bs at w 0 h (omega arith) in
-    let b1 = get_or-put_in bs at w 1 h (omega arith) in
-    let b2 = get_or-put_in bs at w 2 h (omega arith) in
-    let b3 = get_or-put_in bs at w 3 h (omega arith) in
-    let b4 = get_or-put_in bs at w 4 h (omega arith) in
-    let b5 = get_or-put_in bs at w 5 h (omega arith) in
-    let b6 = get_or-put_in bs at w 6 h (omega arith) in
-    let b7 = get_or-put_in bs at w 7 h (omega arith) in
-    omega arith
+    let e = λ (j : ℕ) (b : j < 8). get_or-put_in bs at w j h b in
+    omega (arith, rw add-zero at (e 0 (omega arith)), e 1 (omega arith), e 2 (omega arith), e 3 (omega arith), e 4 (omega arith), e 5 (omega arith), e 6 (omega arith), e 7 (omega arith))
 
 pub word_at-put_below : (bs : List ℕ) (at w j : ℕ) → at + 8 ≤ length bs → j + 8 ≤ at → word_at (with_word bs at w) j ≡ word_at bs j
 word_at-put_below bs at w j h l =
@@ -89,3 +79,6 @@ module _ (bs : List ℕ) (k w : ℕ) (h : k < (length bs - 5) / 8) (l : w < 2 ^ 
       (λ (above : k ≤ i). word_at-put_above bs (5 + 8 * k) w (5 + 8 * i) room (omega arith)) (cases_lt i k) in
       a ∙ sym (s ∙ o))
       (cases_eq i k))
+
+-- what the functions of an image use
+pub ruleset image_steps = (length-image, get_or-image, image_put)

@@ -5,7 +5,7 @@ ghost use Rattle.store.specs.Faults.{store_number, image_number};
 #[derive(Clone, Copy, PartialEq, Eq, Debug)]
 pub enum StoreFault {
     // the position is at or past the size
-    Position,
+    Position = 24,
 }
 
 impl StoreFault {
@@ -13,9 +13,7 @@ impl StoreFault {
     pub fn number(self) -> u8
         ensures { result ≡ store_number self }
     {
-        match self {
-            StoreFault::Position => 24,
-        }
+        self as u8
     }
 }
 
@@ -23,11 +21,11 @@ impl StoreFault {
 #[derive(Clone, Copy, PartialEq, Eq, Debug)]
 pub enum ImageFault {
     // fewer than five bytes
-    Short,
+    Short = 21,
     // another version than 1
-    Version,
+    Version = 22,
     // not as many bytes as the count asks
-    Length,
+    Length = 23,
 }
 
 impl ImageFault {
@@ -35,10 +33,6 @@ impl ImageFault {
     pub fn number(self) -> u8
         ensures { result ≡ image_number self }
     {
-        match self {
-            ImageFault::Short => 21,
-            ImageFault::Version => 22,
-            ImageFault::Length => 23,
-        }
+        self as u8
     }
 }

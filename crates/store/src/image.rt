@@ -17,26 +17,25 @@ impl<'a> Image<'a> {
     pub fn open(bytes: &'a mut [u8]) -> Result<Image<'a>, ImageFault>
         ensures { MatchResult result (λ i. (image_refusal bytes.old ≡ None) × (i.bytes.now ≡ bytes.old)) (λ e. image_refusal bytes.old ≡ Some (image_number e)) }
     {
-        if bytes.len() < 5 {
+        let [version, a, b, c, d, words @ ..] = &*bytes else {
             return Err(ImageFault::Short);
-        }
-        if bytes[0] != 1 {
+        };
+        if *version != 1 {
             return Err(ImageFault::Version);
         }
-        let count = u32::from_be_bytes([bytes[1], bytes[2], bytes[3], bytes[4]]) as usize;
-        if bytes.len() != 5 + 8 * count {
+        let count = u32::from_be_bytes([*a, *b, *c, *d]) as usize;
+        if words.len() != 8 * count {
             return Err(ImageFault::Length);
         }
         Ok(Image { bytes })
     }
 
     // The word at a position.
+    #[tactic(auto, using(crate::proofs::ImageLaws::image_steps))]
     fn word(&self, pos: usize) -> Result<u64, StoreFault>
         ensures { numbered result ≡ read_of (image_words self.now.bytes.now) pos }
     {
-        let Some(at) = place(self.bytes.len(), pos) else {
-            return Err(StoreFault::Position);
-        };
+        let at = place(self.bytes.len(), pos).ok_or(StoreFault::Position)?;
         Ok(get_word(self.bytes, at))
     }
 }
@@ -46,19 +45,11 @@ fn get_word(bytes: &[u8], at: usize) -> u64
     requires { at + 8 ≤ length bytes.now }
     ensures { result ≡ word_at bytes.now at }
 {
-    u64::from_be_bytes([
-        bytes[at],
-        bytes[at + 1],
-        bytes[at + 2],
-        bytes[at + 3],
-        bytes[at + 4],
-        bytes[at + 5],
-        bytes[at + 6],
-        bytes[at + 7],
-    ])
+    u64::from_be_bytes(bytes[at..at + 8].try_into().unwrap())
 }
 
 // Puts a word into the eight bytes from `at`.
+#[tactic(auto, unfolding(crate::specs::Image::with_word))]
 fn put_word(bytes: &mut [u8], at: usize, word: u64)
     requires { at + 8 ≤ length bytes.old }
     ensures { bytes.new ≡ with_word bytes.old at word }
@@ -70,13 +61,10 @@ fn put_word(bytes: &mut [u8], at: usize, word: u64)
 fn place(len: usize, pos: usize) -> Option<usize>
     ensures { MatchOption result ((len - 5) / 8 ≤ pos) (λ at. (at ≡ 5 + 8 * pos) × (pos < (len - 5) / 8)) }
 {
-    if pos < len.saturating_sub(5) / 8 {
-        Some(5 + 8 * pos)
-    } else {
-        None
-    }
+    (pos < len.saturating_sub(5) / 8).then(|| 5 + 8 * pos)
 }
 
+#[tactic(auto, using(crate::proofs::ImageLaws::image_steps))]
 impl Store for Image<'_> {
     ghost words = { λ m. image_words m.bytes.now };
 
@@ -89,18 +77,8 @@ impl Store for Image<'_> {
     }
 
     fn write(&mut self, pos: usize, word: u64) -> Result<(), StoreFault> {
-        let Some(at) = place(self.bytes.len(), pos) else {
-            return Err(StoreFault::Position);
-        };
+        let at = place(self.bytes.len(), pos).ok_or(StoreFault::Position)?;
         put_word(self.bytes, at, word);
         Ok(())
-    }
-
-    fn swap(&mut self, pos: usize, old: u64, new: u64) -> Result<bool, StoreFault> {
-        if self.read(pos)? != old {
-            return Ok(false);
-        }
-        self.write(pos, new)?;
-        Ok(true)
     }
 }

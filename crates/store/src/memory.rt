@@ -1,4 +1,6 @@
 ghost use Rattle.std.specs.Prelude.{◌≡◌};
+ghost use Rattle.store.specs.Faults.{numbered};
+ghost use Rattle.store.specs.Words.{read_of};
 
 use crate::fault::StoreFault;
 use crate::words::Store;
@@ -16,6 +18,13 @@ impl<'a> Memory<'a> {
     {
         Memory { cells }
     }
+
+    // The word at a position.
+    fn word(&self, pos: usize) -> Result<u64, StoreFault>
+        ensures { numbered result ≡ read_of self.now.cells.now pos }
+    {
+        self.cells.get(pos).copied().ok_or(StoreFault::Position)
+    }
 }
 
 impl Store for Memory<'_> {
@@ -26,30 +35,15 @@ impl Store for Memory<'_> {
     }
 
     fn read(&mut self, pos: usize) -> Result<u64, StoreFault> {
-        if pos < self.cells.len() {
-            Ok(self.cells[pos])
-        } else {
-            Err(StoreFault::Position)
-        }
+        self.word(pos)
     }
 
     fn write(&mut self, pos: usize, word: u64) -> Result<(), StoreFault> {
-        if pos < self.cells.len() {
-            self.cells[pos] = word;
-            Ok(())
-        } else {
-            Err(StoreFault::Position)
-        }
-    }
-
-    fn swap(&mut self, pos: usize, old: u64, new: u64) -> Result<bool, StoreFault> {
+        // by the index, since `get_mut` says nothing of what the slice holds afterwards
         if pos >= self.cells.len() {
             return Err(StoreFault::Position);
         }
-        if self.cells[pos] != old {
-            return Ok(false);
-        }
-        self.cells[pos] = new;
-        Ok(true)
+        self.cells[pos] = word;
+        Ok(())
     }
 }

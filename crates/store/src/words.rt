@@ -25,5 +25,12 @@ pub trait Store {
     // Replaces the word at a position by `new` if it is `old`, and says whether it was.
     fn swap(&mut self, pos: usize, old: u64, new: u64) -> Result<bool, StoreFault>
         ensures answer { numbered result ≡ swap_of (words self.old) pos old }
-        ensures after { words self.new ≡ swapped (words self.old) pos old new };
+        ensures after { words self.new ≡ swapped (words self.old) pos old new }
+    {
+        let found = self.read(pos)? == old;
+        if found {
+            self.write(pos, new)?;
+        }
+        Ok(found)
+    }
 }

@@ -7,13 +7,13 @@ use Rattle.steps.proofs.poll.ask.Goals as goal
 
 pub returns : goal.returns
 returns c =
-    let l : lawful c.args.path.ways c.args.seat.now ≡ true = search rules in
+    let l : lawful c.args.path.ways.number c.args.seat.now ≡ true = search rules in
     let a : state_number c.args.seat.now.state ≡ 0 → ⊥ = λ e. grind arith in
-    let k : ranged c.args.path.ways c.args.seat.now ≡ true = ranged-from_lawful c.args.path.ways c.args.seat.now l a in
+    let k : ranged c.args.path.ways.number c.args.seat.now ≡ true = ranged-from_lawful c.args.path.ways.number c.args.seat.now l a in
     record {
       accepted = search rules;
       coin = search rules;
       cells = search rules;
-      low = low_from_ranged c.args.path.ways c.args.seat.now k;
-      ready = ready_from_ranged c.args.path.ways c.args.seat.now k;
+      low = low_from_ranged c.args.path.ways.number c.args.seat.now k;
+      ready = ready_from_ranged c.args.path.ways.number c.args.seat.now k;
     }
