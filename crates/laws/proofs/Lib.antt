@@ -1,4 +1,3 @@
-pub mod RunLaws
 pub mod Prompt
 pub mod OpenLaws
 pub mod Phases

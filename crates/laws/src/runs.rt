@@ -5,9 +5,9 @@ ghost use Rattle.laws.specs.declared.runs.PerformFault.TheVariants.{Memory, Box}
 use crate::call::{Call, Got};
 use crate::make::make;
 use layout::BoxFault;
-use lock::open;
+use lock::{Lock, open};
 use seats::Seat;
-use std::alloc::{AllocError, AllocFailed, Global};
+use std::alloc::{AllocError, Global};
 use store::Store;
 
 // Why a list of calls is not performed.
@@ -46,12 +46,14 @@ pub fn perform<S: Store>(
     ensures { MatchResult result (λ v. Performs ways table.old (S.words store.old) calls.now v.items table.new (S.words store.new)) (λ e. Unperformed ways table.old (S.words store.old) e table.new (S.words store.new)) }
 {
     let mut got = Vec::with_capacity(heap, calls.len())?;
-    let mut gate = open(ways, store, table)?;
+    let mut record = open(ways, store, table)?;
+    let mut lock = Lock {
+        record: &mut record,
+        store,
+        table,
+    };
     for call in calls {
-        let one = make(&mut gate, store, table, *call);
-        if got.push(one).is_err() {
-            return Err(PerformFault::Memory);
-        }
+        got.push(make(&mut lock, *call)).unwrap();
     }
     Ok(got)
 }

@@ -1,3 +1,4 @@
 pub mod States
 pub mod Questions
 pub mod Calls
+pub mod Locks

@@ -2,10 +2,11 @@
 #![tactic(auto)]
 
 mod calls;
+pub mod locks;
 mod opening;
 mod polling;
 mod questions;
 
-pub use calls::{View, apply, give_up, leave, look, publish};
+pub use calls::View;
+pub use locks::Lock;
 pub use opening::open;
-pub use polling::poll;

@@ -25,6 +25,7 @@ pub fn open<S: Store>(ways: u8, store: &mut S, table: &mut [Seat]) -> Result<Box
 }
 
 // Puts 0 into the first cells.
+#[tactic(auto, using(std::proofs::lemmas::List::Edits::fill_more))]
 fn clear_cells<S: Store>(store: &mut S, count: usize) -> Result<(), BoxFault>
     requires { count ≤ length (S.words store.old) }
     ensures answer { result ≡ Ok tt }
@@ -41,7 +42,5 @@ fn clear_seats(table: &mut [Seat], count: usize)
     requires { count ≤ length table.old }
     ensures { table.new ≡ replicate count away ++ drop count table.old }
 {
-    for at in 0..count {
-        table[at] = Seat::away();
-    }
+    table[..count].fill(Seat::away());
 }

@@ -3,8 +3,8 @@
 
 use anyhow::anyhow;
 use known::known_values;
-use layout::{BoxFault, BoxRecord, Passage, SeatId};
-use lock::{apply, leave, open, poll, publish};
+use layout::{BoxFault, Passage, SeatId};
+use lock::{Lock, open};
 use seats::{Seat, State};
 use store::{Image, Memory, Store};
 
@@ -32,8 +32,7 @@ fn run(rt: &HostRuntime) -> anyhow::Result<()> {
 fn in_memory(rt: &HostRuntime, ways: u8, seat: SeatId) -> anyhow::Result<()> {
     let mut cells = vec![in rt.alloc(); 99; 252]?;
     let mut store = Memory::new(cells.as_mut_slice());
-    let p = seat.0;
-    println!(rt; "ways {ways}, seat {p}, in memory")?;
+    println!(rt; "ways {ways}, seat {seat}, in memory")?;
     passage(rt, &mut store, ways, seat)
 }
 
@@ -41,11 +40,8 @@ fn in_memory(rt: &HostRuntime, ways: u8, seat: SeatId) -> anyhow::Result<()> {
 fn in_image(rt: &HostRuntime, ways: u8, seat: SeatId) -> anyhow::Result<()> {
     let mut bytes = vec![in rt.alloc(); 0; 2021]?;
     bytes.as_mut_slice()[0..5].copy_from_slice(&[1, 0, 0, 0, 252]);
-    let Ok(mut store) = Image::open(bytes.as_mut_slice()) else {
-        return Err(anyhow!("no image"));
-    };
-    let p = seat.0;
-    println!(rt; "ways {ways}, seat {p}, in an image")?;
+    let mut store = Image::open(bytes.as_mut_slice()).map_err(|_| anyhow!("no image"))?;
+    println!(rt; "ways {ways}, seat {seat}, in an image")?;
     passage(rt, &mut store, ways, seat)
 }
 
@@ -58,24 +54,20 @@ fn passage<S: Store>(
 ) -> anyhow::Result<()> {
     let mut table = vec![in rt.alloc(); Seat::away(); 64]?;
     let table = table.as_mut_slice();
-    let Ok(mut gate) = open(ways, store, table) else {
-        return Err(anyhow!("not opened"));
+    let mut record = open(ways, store, table).map_err(|_| anyhow!("not opened"))?;
+    let mut lock = Lock {
+        record: &mut record,
+        store,
+        table,
     };
-    let Ok(number) = apply(&mut gate, store, table, seat) else {
-        return Err(anyhow!("no passage"));
-    };
-    let n = number.0;
-    println!(rt; "application: passage {n}")?;
-    polls(rt, &mut gate, store, table, seat, number, State::Holding)?;
-    tell(
-        rt,
-        "publish",
-        publish(&mut gate, store, table, seat, number),
-    )?;
-    tell(rt, "leave", leave(&mut gate, store, table, seat, number))?;
-    polls(rt, &mut gate, store, table, seat, number, State::Away)?;
+    let number = lock.apply(seat).map_err(|_| anyhow!("no passage"))?;
+    println!(rt; "application: passage {number}")?;
+    polls(rt, &mut lock, seat, number, State::Holding)?;
+    tell(rt, "publish", lock.publish(seat, number))?;
+    tell(rt, "leave", lock.leave(seat, number))?;
+    polls(rt, &mut lock, seat, number, State::Away)?;
     for height in 1..ways {
-        cells(rt, &gate, store, seat, height)?;
+        cells(rt, &mut lock, seat, height)?;
     }
     Ok(())
 }
@@ -83,22 +75,20 @@ fn passage<S: Store>(
 // Polls until the seat has come to a state.
 fn polls<S: Store>(
     rt: &HostRuntime,
-    gate: &mut BoxRecord,
-    store: &mut S,
-    table: &mut [Seat],
+    lock: &mut Lock<'_, S>,
     seat: SeatId,
     number: Passage,
     until: State,
 ) -> anyhow::Result<()> {
     for _ in 0..MOST_POLLS {
-        let Some(before) = table.get(usize::from(seat.0)).copied() else {
+        let Some(before) = lock.table.get(usize::from(seat.0)).copied() else {
             return Err(anyhow!("no such seat"));
         };
         let place = before.place.number();
         let height = before.height;
-        let Ok(state) = poll(gate, store, table, seat, number, KING) else {
-            return Err(anyhow!("poll refused"));
-        };
+        let state = lock
+            .poll(seat, number, KING)
+            .map_err(|_| anyhow!("poll refused"))?;
         println!(rt; "poll: place {place} at height {height}, then {state}")?;
         if state == until {
             return Ok(());
@@ -108,9 +98,7 @@ fn polls<S: Store>(
 }
 
 fn tell(rt: &HostRuntime, call: &str, answer: Result<State, BoxFault>) -> anyhow::Result<()> {
-    let Ok(state) = answer else {
-        return Err(anyhow!("refused"));
-    };
+    let state = answer.map_err(|_| anyhow!("refused"))?;
     println!(rt; "{call}: {state}")?;
     Ok(())
 }
@@ -118,12 +106,11 @@ fn tell(rt: &HostRuntime, call: &str, answer: Result<State, BoxFault>) -> anyhow
 // The cells of the gate that the seat meets at a height.
 fn cells<S: Store>(
     rt: &HostRuntime,
-    gate: &BoxRecord,
-    store: &mut S,
+    lock: &mut Lock<'_, S>,
     seat: SeatId,
     height: u8,
 ) -> anyhow::Result<()> {
-    let Some(path) = gate.path(seat) else {
+    let Some(path) = lock.record.path(seat) else {
         return Err(anyhow!("no such seat"));
     };
     let Some(at) = path.meets(height) else {
@@ -133,9 +120,10 @@ fn cells<S: Store>(
     let size = 4 + 2 * u16::from(at.ways);
     print!(rt; "cells {base} up:")?;
     for pos in base..base.saturating_add(size) {
-        let Ok(word) = store.read(usize::from(pos)) else {
-            return Err(anyhow!("no such cell"));
-        };
+        let word = lock
+            .store
+            .read(usize::from(pos))
+            .map_err(|_| anyhow!("no such cell"))?;
         print!(rt; " {word}")?;
     }
     println!(rt; "")?;

@@ -2,7 +2,7 @@
 use crate::records;
 use anyhow::anyhow;
 use layout::{BoxFault, BoxRecord, Passage, Refusal, SeatId};
-use lock::{apply, give_up, leave, look, open, poll, publish};
+use lock::{Lock, open};
 use seats::{Place, Seat};
 use store::Memory;
 
@@ -21,7 +21,7 @@ pub enum Call {
 
 #[derive(Drop)]
 pub struct Bed {
-    gate: BoxRecord,
+    record: BoxRecord,
     words: Vec<u64>,
     table: Vec<Seat>,
 }
@@ -31,16 +31,19 @@ impl Bed {
     pub fn new(rt: &HostRuntime, seats: usize, cells: usize) -> anyhow::Result<Bed> {
         let mut words = vec![in rt.alloc(); OLD; 252]?;
         let mut table = vec![in rt.alloc(); Seat::away(); 64]?;
-        let Ok(gate) = open(
+        let record = open(
             4,
             &mut Memory::new(words.as_mut_slice()),
             table.as_mut_slice(),
-        ) else {
-            return Err(anyhow!("not opened"));
-        };
+        )
+        .map_err(|_| anyhow!("not opened"))?;
         words.resize(cells, OLD)?;
         table.resize(seats, Seat::away())?;
-        Ok(Bed { gate, words, table })
+        Ok(Bed {
+            record,
+            words,
+            table,
+        })
     }
 
     // Puts a record into the table.
@@ -59,10 +62,7 @@ impl Bed {
 
     // Makes a call that must be accepted.
     pub fn accepted(&mut self, call: Call) -> anyhow::Result<()> {
-        match self.perform(call) {
-            Ok(()) => Ok(()),
-            Err(_) => Err(anyhow!("refused")),
-        }
+        self.perform(call).map_err(|_| anyhow!("refused"))
     }
 
     // Makes calls that must be refused, and prints each refusal.
@@ -83,30 +83,19 @@ impl Bed {
     }
 
     fn perform(&mut self, call: Call) -> Result<(), BoxFault> {
-        let gate = &mut self.gate;
-        let store = &mut Memory::new(self.words.as_mut_slice());
-        let table = self.table.as_mut_slice();
+        let mut lock = Lock {
+            record: &mut self.record,
+            store: &mut Memory::new(self.words.as_mut_slice()),
+            table: self.table.as_mut_slice(),
+        };
         match call {
-            Call::Apply(seat) => {
-                apply(gate, store, table, seat)?;
-            }
-            Call::Poll(seat, passage, coin) => {
-                poll(gate, store, table, seat, passage, coin)?;
-            }
-            Call::GiveUp(seat, passage) => {
-                give_up(gate, store, table, seat, passage)?;
-            }
-            Call::Leave(seat, passage) => {
-                leave(gate, store, table, seat, passage)?;
-            }
-            Call::Publish(seat, passage) => {
-                publish(gate, store, table, seat, passage)?;
-            }
-            Call::Look(seat) => {
-                look(gate, store, table, seat)?;
-            }
+            Call::Apply(seat) => lock.apply(seat).map(|_| ()),
+            Call::Poll(seat, passage, coin) => lock.poll(seat, passage, coin).map(|_| ()),
+            Call::GiveUp(seat, passage) => lock.give_up(seat, passage).map(|_| ()),
+            Call::Leave(seat, passage) => lock.leave(seat, passage).map(|_| ()),
+            Call::Publish(seat, passage) => lock.publish(seat, passage).map(|_| ()),
+            Call::Look(seat) => lock.look(seat).map(|_| ()),
         }
-        Ok(())
     }
 }
 
@@ -125,14 +114,12 @@ impl Opening {
         let old = records::climbing(Place::MarkApply);
         let mut words = vec![in rt.alloc(); OLD; cells]?;
         let mut table = vec![in rt.alloc(); old; seats]?;
-        let answer = match open(
+        let answer = open(
             ways,
             &mut Memory::new(words.as_mut_slice()),
             table.as_mut_slice(),
-        ) {
-            Ok(_) => Ok(()),
-            Err(fault) => Err(fault),
-        };
+        )
+        .map(|_| ());
         let same = words == vec![in rt.alloc(); OLD; cells]?
             && table == vec![in rt.alloc(); old; seats]?;
         print!(rt; "opening of {ways} ways over {seats} seats and {cells} cells")?;
@@ -142,30 +129,13 @@ impl Opening {
 
 fn name(rt: &HostRuntime, call: Call) -> anyhow::Result<()> {
     match call {
-        Call::Apply(seat) => {
-            let p = seat.0;
-            print!(rt; "application {p}")?;
-        }
-        Call::Poll(seat, passage, coin) => {
-            let p = seat.0;
-            let n = passage.0;
-            print!(rt; "poll {p} {n} {coin}")?;
-        }
-        Call::GiveUp(seat, passage) => own(rt, "give-up", seat, passage)?,
-        Call::Leave(seat, passage) => own(rt, "leave", seat, passage)?,
-        Call::Publish(seat, passage) => own(rt, "publish", seat, passage)?,
-        Call::Look(seat) => {
-            let p = seat.0;
-            print!(rt; "look {p}")?;
-        }
+        Call::Apply(seat) => print!(rt; "application {seat}")?,
+        Call::Poll(seat, passage, coin) => print!(rt; "poll {seat} {passage} {coin}")?,
+        Call::GiveUp(seat, passage) => print!(rt; "give-up {seat} {passage}")?,
+        Call::Leave(seat, passage) => print!(rt; "leave {seat} {passage}")?,
+        Call::Publish(seat, passage) => print!(rt; "publish {seat} {passage}")?,
+        Call::Look(seat) => print!(rt; "look {seat}")?,
     }
-    Ok(())
-}
-
-fn own(rt: &HostRuntime, call: &str, seat: SeatId, passage: Passage) -> anyhow::Result<()> {
-    let p = seat.0;
-    let n = passage.0;
-    print!(rt; "{call} {p} {n}")?;
     Ok(())
 }
 
@@ -173,11 +143,12 @@ fn tell(rt: &HostRuntime, answer: Result<(), BoxFault>, same: bool) -> anyhow::R
     let Err(fault) = answer else {
         return Err(anyhow!("accepted"));
     };
-    let refusal = Refusal::from(fault);
-    let number = refusal.number;
-    let seat = refusal.seat.0;
-    let height = refusal.height;
-    let cell = refusal.cell;
+    let Refusal {
+        number,
+        seat,
+        height,
+        cell,
+    } = Refusal::from(fault);
     let change = if same { "nothing changed" } else { "CHANGED" };
     println!(rt; ": refused {number}, seat {seat}, height {height}, cell {cell}; {change}")?;
     Ok(())

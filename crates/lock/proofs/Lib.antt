@@ -1,2 +1,0 @@
-pub mod FillLaws
-pub mod LockLaws
