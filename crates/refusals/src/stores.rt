@@ -1,6 +1,6 @@
 // The refusals of the two kinds of store.
 use anyhow::anyhow;
-use store::{Image, Memory, Store, StoreFault};
+use store::{Image, ImageFault, Memory, Store, StoreFault};
 
 // A position at the size, and one far past it, in each kind.
 pub fn positions(rt: &HostRuntime) -> anyhow::Result<()> {
@@ -9,9 +9,7 @@ pub fn positions(rt: &HostRuntime) -> anyhow::Result<()> {
     both(rt, &mut Memory::new(&mut words))?;
     let mut bytes = vec![in rt.alloc(); 0; 21]?;
     bytes.as_mut_slice()[0..5].copy_from_slice(&[1, 0, 0, 0, 2]);
-    let Ok(mut image) = Image::open(bytes.as_mut_slice()) else {
-        return Err(anyhow!("no image"));
-    };
+    let mut image = Image::open(bytes.as_mut_slice()).map_err(|_| anyhow!("no image"))?;
     println!(rt; "two words in an image")?;
     both(rt, &mut image)
 }
@@ -31,10 +29,7 @@ fn at<S: Store>(rt: &HostRuntime, store: &mut S, pos: usize) -> anyhow::Result<(
 
 // The number of a refusal, or 0.
 fn number<T: Drop>(answer: Result<T, StoreFault>) -> u8 {
-    match answer {
-        Ok(_) => 0,
-        Err(fault) => fault.number(),
-    }
+    answer.err().map_or(0, StoreFault::number)
 }
 
 // Bytes that are no image.
@@ -51,10 +46,7 @@ pub fn images(rt: &HostRuntime) -> anyhow::Result<()> {
 
 fn image(rt: &HostRuntime, bytes: &mut [u8]) -> anyhow::Result<()> {
     let length = bytes.len();
-    let number = match Image::open(bytes) {
-        Ok(_) => 0,
-        Err(fault) => fault.number(),
-    };
+    let number = Image::open(bytes).err().map_or(0, ImageFault::number);
     println!(rt; "an image of {length} bytes: {number}")?;
     Ok(())
 }
