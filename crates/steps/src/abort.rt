@@ -32,7 +32,7 @@ pub(crate) fn close_apply<S: Store>(
         pair(own, Mark::Reg),
         pair(own, Mark::Pro),
     )?;
-    if read(store, at, Cell::Role(at.way))? == Role::Queen.word() {
+    if read(store, at, Cell::Role(at.way))? == u64::from(Role::Queen) {
         seat.place = Place::AbortQueen;
     } else {
         seat.place = Place::AbortPawn;
@@ -58,7 +58,7 @@ pub(crate) fn abort_pawn<S: Store>(
             seat.place = Place::WithdrawApply;
         }
         None => {
-            write(store, at, Cell::Role(at.way), Role::PromotedPawn.word())?;
+            write(store, at, Cell::Role(at.way), u64::from(Role::PromotedPawn))?;
             *seat = capture(
                 Seat {
                     aim: seat.height,

@@ -22,7 +22,7 @@ pub(crate) fn claim_apply<S: Store>(
 {
     let cell = Cell::Apply(at.way);
     if swap(store, at, cell, 0, pair(seat.passage, Mark::Reg))? {
-        write(store, at, Cell::Role(at.way), Role::Nobody.word())?;
+        write(store, at, Cell::Role(at.way), u64::from(Role::Nobody))?;
         seat.place = Place::RaceForRole;
     }
     Ok(())
@@ -42,20 +42,20 @@ pub(crate) fn race_for_role<S: Store>(
     match coin {
         Coin::TryKing => {
             if swap(store, at, Cell::Count, 0, 1)? {
-                write(store, at, role, Role::King.word())?;
+                write(store, at, role, u64::from(Role::King))?;
                 seat.aim = seat.height;
                 seat.place = Place::MarkApply;
             }
         }
         Coin::TryQueen => {
             if swap(store, at, Cell::Count, 1, 2)? {
-                write(store, at, role, Role::Queen.word())?;
+                write(store, at, role, u64::from(Role::Queen))?;
                 seat.place = Place::AwaitKing;
             }
         }
         Coin::TryPawn => {
             if read(store, at, Cell::Count)? == 2 {
-                write(store, at, role, Role::Pawn.word())?;
+                write(store, at, role, u64::from(Role::Pawn))?;
                 seat.place = Place::AwaitPromotion;
             }
         }
@@ -73,7 +73,7 @@ pub(crate) fn await_promotion<S: Store>(
     ensures { Does (await_promotion_step at seat.old (S.words store.old)) (told result) (S.words store.new) seat.new }
 {
     if read(store, at, Cell::Apply(at.way))? == pair(seat.passage, Mark::Pro) {
-        write(store, at, Cell::Role(at.way), Role::PromotedPawn.word())?;
+        write(store, at, Cell::Role(at.way), u64::from(Role::PromotedPawn))?;
         seat.aim = seat.height;
         seat.place = Place::MarkApply;
     } else {

@@ -5,6 +5,7 @@ ghost use Rattle.steps.specs.Pawns.{Notable};
 ghost use Rattle.steps.specs.Outcomes.{Does, Room};
 
 use crate::cells::{Cell, read};
+use crate::codes::Mark;
 use crate::pawns::{PawnSet, write_pawns};
 use layout::{BoxFault, Meeting, WayId};
 use seats::{Place, Seat};
@@ -54,8 +55,8 @@ pub(crate) fn collect_pawns<S: Store>(
 fn waiting_number(word: u64) -> u16
     ensures { result ≡ waiting word }
 {
-    match word {
-        5..=65535 if word % 4 == 1 => (word / 4) as u16,
+    match u16::try_from(word) {
+        Ok(pair) if Mark::of(pair) == Mark::Reg => pair / 4,
         _ => 0,
     }
 }

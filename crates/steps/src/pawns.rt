@@ -1,11 +1,14 @@
 ghost use Rattle.std.specs.Prelude.{◌≡◌, ◌%◌, ◌<◌, ◌≤◌, length, IfSome, Ok};
 ghost use Rattle.steps.specs.declared.cells.Cell.TheVariants.{Pawns};
+ghost use Rattle.steps.specs.Codes.{mark_number, pair};
 ghost use Rattle.steps.specs.Outcomes.{Room, word, put};
 ghost use Rattle.std.specs.Option.{option_map};
-ghost use Rattle.steps.specs.Pawns.{lanes, packed, lane, first_waiting_way, promote_word, promote_of, abort_of, remove_word, collect_lane, collect_word, Notable};
+ghost use Rattle.steps.specs.Pawns.{lanes, packed, lane as lane_of, first_waiting_way, promote_word, promote_of, abort_of, remove_word, collect_lane, collect_word, Notable};
 
 use crate::cells::{Cell, write};
+use crate::codes::{Mark, pair};
 use layout::{BoxFault, Meeting, Passage, WayId};
+use std::array;
 use store::Store;
 
 // The pawn word: a passage number and a state for each way of a gate.
@@ -18,20 +21,14 @@ impl PawnSet {
         requires { Notable noted }
         ensures { self.new.0 ≡ collect_word self.old.0 ways noted }
     {
-        let mut pairs = unpack(self.0);
-        if 0 < ways {
-            pairs[0] = collected(pairs[0], noted[0]);
-        }
-        if 1 < ways {
-            pairs[1] = collected(pairs[1], noted[1]);
-        }
-        if 2 < ways {
-            pairs[2] = collected(pairs[2], noted[2]);
-        }
-        if 3 < ways {
-            pairs[3] = collected(pairs[3], noted[3]);
-        }
-        self.0 = pack(pairs);
+        let pairs = unpack(self.0);
+        self.0 = pack(array::from_fn(|way| {
+            if way < usize::from(ways) {
+                collected(pairs[way], noted[way])
+            } else {
+                pairs[way]
+            }
+        }));
     }
 
     // The set after a way has given up as a passage, or none if it is promoted already.
@@ -41,10 +38,10 @@ impl PawnSet {
     {
         let mut pairs = unpack(self.0);
         let i = usize::from(way.0);
-        if pairs[i] % 4 == 2 {
+        if Mark::of(pairs[i]) == Mark::Pro {
             return None;
         }
-        pairs[i] = number.0 * 4 + 3;
+        pairs[i] = lane(number, Mark::Abort);
         Some(PawnSet(pack(pairs)))
     }
 
@@ -55,10 +52,10 @@ impl PawnSet {
     {
         let mut pairs = unpack(self.0);
         let i = first_waiting(self.0, ways)?;
-        let number = pairs[i] / 4;
-        pairs[i] += 1;
+        let number = Passage(pairs[i] / 4);
+        pairs[i] = lane(number, Mark::Pro);
         self.0 = pack(pairs);
-        Some((WayId(i as u8), Passage(number)))
+        Some((WayId(i as u8), number))
     }
 
     // Strikes a way out.
@@ -68,7 +65,7 @@ impl PawnSet {
     {
         let mut pairs = unpack(self.0);
         let i = usize::from(way.0);
-        pairs[i] = pairs[i] / 4 * 4 + 3;
+        pairs[i] = lane(Passage(pairs[i] / 4), Mark::Abort);
         self.0 = pack(pairs);
     }
 }
@@ -95,22 +92,23 @@ pub(crate) fn write_pawns<S: Store>(
 fn unpack(word: u64) -> [u16; 4]
     ensures { result ≡ lanes word }
 {
-    [
-        (word % 65536) as u16,
-        (word / 65536 % 65536) as u16,
-        (word / 4294967296 % 65536) as u16,
-        (word / 281474976710656) as u16,
-    ]
+    [word, word >> 16, word >> 32, word >> 48].map(|rest| (rest % 65536) as u16)
 }
 
 // The word of four pairs.
 fn pack(pairs: [u16; 4]) -> u64
     ensures { result ≡ packed pairs }
 {
-    u64::from(pairs[0])
-        + u64::from(pairs[1]) * 65536
-        + u64::from(pairs[2]) * 4294967296
-        + u64::from(pairs[3]) * 281474976710656
+    let [a, b, c, d] = pairs.map(u64::from);
+    a + (b << 16) + (c << 32) + (d << 48)
+}
+
+// The pair of a passage number and a state.
+fn lane(number: Passage, mark: Mark) -> u16
+    requires { number.0 ≤ 16383 }
+    ensures { result ≡ pair number.0 (mark_number mark) }
+{
+    pair(number, mark) as u16
 }
 
 // A pair after a collect of a noted number.
@@ -118,28 +116,20 @@ fn collected(pair: u16, noted: u16) -> u16
     requires { noted ≤ 16383 }
     ensures { result ≡ collect_lane pair noted }
 {
-    if noted == 0 || pair % 4 == 3 {
+    if noted == 0 || Mark::of(pair) == Mark::Abort {
         pair
     } else {
-        noted * 4 + 1
+        lane(Passage(noted), Mark::Reg)
     }
 }
 
 // The lowest way below `ways` that waits.
 fn first_waiting(word: u64, ways: u8) -> Option<usize>
     ensures value { result ≡ first_waiting_way word ways }
-    ensures waits { IfSome result (λ i. (i < 4) × (lane word i % 4 ≡ 1)) }
+    ensures waits { IfSome result (λ i. (i < 4) × (lane_of word i % 4 ≡ 1)) }
 {
-    let pairs = unpack(word);
-    if 0 < ways && pairs[0] % 4 == 1 {
-        Some(0)
-    } else if 1 < ways && pairs[1] % 4 == 1 {
-        Some(1)
-    } else if 2 < ways && pairs[2] % 4 == 1 {
-        Some(2)
-    } else if 3 < ways && pairs[3] % 4 == 1 {
-        Some(3)
-    } else {
-        None
-    }
+    unpack(word)
+        .iter()
+        .take(usize::from(ways))
+        .position(|pair| Mark::of(*pair) == Mark::Reg)
 }

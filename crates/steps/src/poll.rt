@@ -67,8 +67,5 @@ fn ask(size: usize, seat: &Seat, path: Path, passage: Passage, coin: u8) -> Resu
     if !matches!(seat.state, State::Climbing | State::Leaving) {
         return Err(BoxFault::WrongState(id));
     }
-    let Some(coin) = Coin::new(coin) else {
-        return Err(BoxFault::BadCoin(id));
-    };
-    Ok(coin)
+    Coin::try_from(coin).map_err(|_| BoxFault::BadCoin(id))
 }

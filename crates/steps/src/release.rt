@@ -20,10 +20,10 @@ pub(crate) fn read_role<S: Store>(
     ensures { Does (read_role_step at seat.old (S.words store.old)) (told result) (S.words store.new) seat.new }
 {
     let role = Cell::Role(at.way);
-    seat.place = match Role::new(read(store, at, role)?) {
-        Some(Role::King) => Place::OpenAlone,
-        Some(Role::Queen) => Place::RaceToClose,
-        Some(Role::PromotedPawn) => Place::StrikeSelf,
+    seat.place = match Role::try_from(read(store, at, role)?) {
+        Ok(Role::King) => Place::OpenAlone,
+        Ok(Role::Queen) => Place::RaceToClose,
+        Ok(Role::PromotedPawn) => Place::StrikeSelf,
         _ => return Err(unfit(at, role)),
     };
     Ok(())
