@@ -6,7 +6,7 @@ ghost use Rattle.steps.specs.Outcomes.{Does, Room};
 
 use crate::cells::{Cell, read, swap, write};
 use crate::codes::{Mark, Role, pair};
-use crate::pawns::{PawnSet, write_pawns};
+use crate::pawns::change_pawns;
 use crate::wins::{capture, handed_height, unfit};
 use layout::{BoxFault, Meeting, WayId};
 use seats::{Place, Seat};
@@ -51,22 +51,22 @@ pub(crate) fn abort_pawn<S: Store>(
     requires height { seat.old.height ≤ heights_of at.ways }
     ensures { Does (abort_pawn_step at seat.old (S.words store.old)) (told result) (S.words store.new) seat.new }
 {
-    let pawns = PawnSet(read(store, at, Cell::Pawns)?);
-    match pawns.abort(at.way, seat.passage) {
-        Some(left) => {
-            write_pawns(store, at, pawns, left)?;
-            seat.place = Place::WithdrawApply;
-        }
-        None => {
-            write(store, at, Cell::Role(at.way), u64::from(Role::PromotedPawn))?;
-            *seat = capture(
-                Seat {
-                    aim: seat.height,
-                    ..*seat
-                },
-                at,
-            );
-        }
+    if change_pawns(store, at, |pawns| pawns.abort(at.way, seat.passage))? {
+        seat.place = Place::WithdrawApply;
+    } else {
+        write(
+            store,
+            at,
+            Cell::Role(at.way),
+            u64::from(Role::PromotedPawn),
+        )?;
+        *seat = capture(
+            Seat {
+                aim: seat.height,
+                ..*seat
+            },
+            at,
+        );
     }
     Ok(())
 }

@@ -6,7 +6,7 @@ ghost use Rattle.steps.specs.Outcomes.{Does, Room};
 
 use crate::cells::{Cell, read};
 use crate::codes::Mark;
-use crate::pawns::{PawnSet, write_pawns};
+use crate::pawns::change_pawns;
 use layout::{BoxFault, Meeting, WayId};
 use seats::{Place, Seat};
 use store::Store;
@@ -43,10 +43,7 @@ pub(crate) fn collect_pawns<S: Store>(
     requires noted { Notable seat.old.noted }
     ensures { Does (collect_pawns_step at seat.old (S.words store.old)) (told result) (S.words store.new) seat.new }
 {
-    let pawns = PawnSet(read(store, at, Cell::Pawns)?);
-    let mut all = pawns;
-    all.collect(at.ways, seat.noted);
-    write_pawns(store, at, pawns, all)?;
+    change_pawns(store, at, |pawns| pawns.collect(at.ways, seat.noted))?;
     seat.place = Place::RaceToClose;
     Ok(())
 }

@@ -4,7 +4,7 @@ ghost use Rattle.steps.specs.HelpRelease.{race_to_close_step, clear_sync_one_ste
 ghost use Rattle.steps.specs.Outcomes.{Does, Room};
 
 use crate::cells::{Cell, read, swap, write};
-use crate::pawns::{PawnSet, write_pawns};
+use crate::pawns::change_pawns;
 use crate::wins::{closing_place, unfit};
 use layout::{BoxFault, Meeting, WayId};
 use seats::{Place, Seat};
@@ -83,10 +83,7 @@ pub(crate) fn strike_out<S: Store>(
     requires kept { seat.old.kept_way.0 < 4 }
     ensures { Does (strike_out_step at seat.old (S.words store.old)) (told result) (S.words store.new) seat.new }
 {
-    let pawns = PawnSet(read(store, at, Cell::Pawns)?);
-    let mut others = pawns;
-    others.remove(seat.kept_way);
-    write_pawns(store, at, pawns, others)?;
+    change_pawns(store, at, |pawns| pawns.remove(seat.kept_way))?;
     seat.place = Place::StrikeSelf;
     Ok(())
 }

@@ -2,17 +2,18 @@ ghost use Rattle.std.specs.Prelude.{◌≡◌, ◌%◌, ◌<◌, ◌≤◌, leng
 ghost use Rattle.steps.specs.declared.cells.Cell.TheVariants.{Pawns};
 ghost use Rattle.steps.specs.Codes.{mark_number, pair};
 ghost use Rattle.steps.specs.Outcomes.{Room, word, put};
-ghost use Rattle.std.specs.Option.{option_map};
+ghost use Rattle.std.specs.Option.{is_some, unwrap_or};
+ghost use Rattle.std.specs.Fn.{FnOnceReturnsAtMut};
 ghost use Rattle.steps.specs.Pawns.{lanes, packed, lane as lane_of, first_waiting_way, promote_word, promote_of, abort_of, remove_word, collect_lane, collect_word, Notable};
 
-use crate::cells::{Cell, write};
+use crate::cells::{Cell, read, write};
 use crate::codes::{Mark, pair};
 use layout::{BoxFault, Meeting, Passage, WayId};
 use std::array;
 use store::Store;
 
 // The pawn word: a passage number and a state for each way of a gate.
-#[derive(Clone, Copy)]
+#[derive(Clone, Copy, PartialEq, Eq, Debug)]
 pub struct PawnSet(pub u64);
 
 impl PawnSet {
@@ -31,18 +32,20 @@ impl PawnSet {
         }));
     }
 
-    // The set after a way has given up as a passage, or none if it is promoted already.
-    pub(crate) fn abort(self, way: WayId, number: Passage) -> Option<PawnSet>
+    // Takes out a way that gives up as a passage, unless it is promoted already, and says whether it did.
+    pub(crate) fn abort(&mut self, way: WayId, number: Passage) -> bool
         requires { (way.0 < 4) × (number.0 ≤ 16383) }
-        ensures { option_map (λ s. s.0) result ≡ abort_of self.0 way.0 number.0 }
+        ensures answer { result ≡ is_some (abort_of self.old.0 way.0 number.0) }
+        ensures after { self.new.0 ≡ unwrap_or (abort_of self.old.0 way.0 number.0) self.old.0 }
     {
         let mut pairs = unpack(self.0);
         let i = usize::from(way.0);
         if Mark::of(pairs[i]) == Mark::Pro {
-            return None;
+            return false;
         }
         pairs[i] = lane(number, Mark::Abort);
-        Some(PawnSet(pack(pairs)))
+        self.0 = pack(pairs);
+        true
     }
 
     // Promotes the lowest way below `ways` that waits, and answers it with its number.
@@ -70,22 +73,23 @@ impl PawnSet {
     }
 }
 
-// Writes the pawn word back, if it has changed.
-pub(crate) fn write_pawns<S: Store>(
+// Changes the pawns of a gate, and answers what the change answers. The word is written back if it has changed.
+pub(crate) fn change_pawns<S: Store, R: Drop, F: FnOnce(&mut PawnSet) -> R + Drop>(
     store: &mut S,
     at: Meeting,
-    before: PawnSet,
-    after: PawnSet,
-) -> Result<(), BoxFault>
+    change: F,
+) -> Result<R, BoxFault>
     requires room { Room at (length (S.words store.old)) }
-    requires found { word (S.words store.old) at Pawns ≡ before.0 }
-    ensures answer { result ≡ Ok tt }
-    ensures after { S.words store.new ≡ put (S.words store.old) at Pawns after.0 }
+    requires change { F.IsAlwaysCallable change }
+    ensures { (r : R) × (x : PawnSet) × (result ≡ Ok r) × FnOnceReturnsAtMut F.FnOnce change (record { 0 = word (S.words store.old) at Pawns }) r x × (S.words store.new ≡ put (S.words store.old) at Pawns x.0) }
 {
-    if after.0 != before.0 {
+    let before = PawnSet(read(store, at, Cell::Pawns)?);
+    let mut after = before;
+    let answer = change(&mut after);
+    if after != before {
         write(store, at, Cell::Pawns, after.0)?;
     }
-    Ok(())
+    Ok(answer)
 }
 
 // The pairs of a word, that of way 0 first.

@@ -3,9 +3,9 @@ ghost use Rattle.layout.specs.Refusals.{told};
 ghost use Rattle.steps.specs.Promote.{strike_self_step, promote_pawn_step, reset_pawns_step, open_gate_step, mark_promoted_step};
 ghost use Rattle.steps.specs.Outcomes.{Does, Room};
 
-use crate::cells::{Cell, read, swap, write};
+use crate::cells::{Cell, swap, write};
 use crate::codes::{Mark, pair};
-use crate::pawns::{PawnSet, write_pawns};
+use crate::pawns::change_pawns;
 use crate::wins::closing_place;
 use layout::{BoxFault, Meeting};
 use seats::{Place, Seat};
@@ -20,10 +20,7 @@ pub(crate) fn strike_self<S: Store>(
     requires room { Room at (length (S.words store.old)) }
     ensures { Does (strike_self_step at seat.old (S.words store.old)) (told result) (S.words store.new) seat.new }
 {
-    let pawns = PawnSet(read(store, at, Cell::Pawns)?);
-    let mut others = pawns;
-    others.remove(at.way);
-    write_pawns(store, at, pawns, others)?;
+    change_pawns(store, at, |pawns| pawns.remove(at.way))?;
     seat.place = Place::PromotePawn;
     Ok(())
 }
@@ -37,10 +34,7 @@ pub(crate) fn promote_pawn<S: Store>(
     requires room { Room at (length (S.words store.old)) }
     ensures { Does (promote_pawn_step at seat.old (S.words store.old)) (told result) (S.words store.new) seat.new }
 {
-    let pawns = PawnSet(read(store, at, Cell::Pawns)?);
-    let mut after = pawns;
-    let promoted = after.promote(at.ways);
-    write_pawns(store, at, pawns, after)?;
+    let promoted = change_pawns(store, at, |pawns| pawns.promote(at.ways))?;
     if let Some((way, number)) = promoted {
         seat.kept_way = way;
         seat.kept_number = number;
