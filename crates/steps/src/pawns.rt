@@ -1,14 +1,15 @@
 ghost use Rattle.std.specs.Prelude.{◌≡◌, ◌%◌, ◌<◌, ◌≤◌, length, IfSome, Ok};
 ghost use Rattle.steps.specs.declared.cells.Cell.TheVariants.{Pawns};
 ghost use Rattle.steps.specs.Codes.{mark_number, pair};
-ghost use Rattle.steps.specs.Outcomes.{Room, word, put};
+ghost use Rattle.steps.specs.Outcomes.{word, put};
 ghost use Rattle.std.specs.Option.{is_some, unwrap_or};
 ghost use Rattle.std.specs.Fn.{FnOnceReturnsAtMut};
 ghost use Rattle.steps.specs.Pawns.{lanes, packed, lane as lane_of, first_waiting_way, promote_word, promote_of, abort_of, remove_word, collect_lane, collect_word, Notable};
 
-use crate::cells::{Cell, read, write};
+use crate::cells::Cell;
 use crate::codes::{Mark, pair};
-use layout::{BoxFault, Meeting, Passage, WayId};
+use crate::gate::Gate;
+use layout::{BoxFault, Passage, WayId};
 use std::array;
 use store::Store;
 
@@ -73,23 +74,25 @@ impl PawnSet {
     }
 }
 
-// Changes the pawns of a gate, and answers what the change answers. The word is written back if it has changed.
-pub(crate) fn change_pawns<S: Store, R: Drop, F: FnOnce(&mut PawnSet) -> R + Drop>(
-    store: &mut S,
-    at: Meeting,
-    change: F,
-) -> Result<R, BoxFault>
-    requires room { Room at (length (S.words store.old)) }
-    requires change { F.IsAlwaysCallable change }
-    ensures { (r : R) × (x : PawnSet) × (result ≡ Ok r) × FnOnceReturnsAtMut F.FnOnce change (record { 0 = word (S.words store.old) at Pawns }) r x × (S.words store.new ≡ put (S.words store.old) at Pawns x.0) }
-{
-    let before = PawnSet(read(store, at, Cell::Pawns)?);
-    let mut after = before;
-    let answer = change(&mut after);
-    if after != before {
-        write(store, at, Cell::Pawns, after.0)?;
+impl<S: Store> Gate<'_, S> {
+    // Changes the pawns, and answers what the change answers. The word is written back if it has changed.
+    pub(crate) fn change_pawns<R: Drop, F: FnOnce(&mut PawnSet) -> R + Drop>(
+        &mut self,
+        change: F,
+    ) -> Result<R, BoxFault>
+        requires { F.IsAlwaysCallable change }
+        ensures store { self.new.store.ghost_name ≡ self.old.store.ghost_name }
+        ensures at { self.new.at ≡ self.old.at }
+        ensures changes { (r : R) × (x : PawnSet) × (result ≡ Ok r) × FnOnceReturnsAtMut F.FnOnce change (record { 0 = word (S.words self.old.store.now) self.old.at Pawns }) r x × (S.words self.new.store.now ≡ put (S.words self.old.store.now) self.old.at Pawns x.0) }
+    {
+        let before = PawnSet(self.read(Cell::Pawns)?);
+        let mut after = before;
+        let answer = change(&mut after);
+        if after != before {
+            self.write(Cell::Pawns, after.0)?;
+        }
+        Ok(answer)
     }
-    Ok(answer)
 }
 
 // The pairs of a word, that of way 0 first.
