@@ -6,7 +6,7 @@ use layout::{Meeting, WayId};
 // A cell of a gate.
 #[derive(Clone, Copy)]
 pub enum Cell {
-    // 0 open, 1 taken by a king, 2 taken by king and queen or by who came after them
+    // who has taken the gate
     Count,
     // 0, the height up to which the king hands over, or 15 if the queen has gone
     SyncOne,

@@ -5,7 +5,7 @@ ghost use Rattle.steps.specs.Climb.{claim_apply_step, race_for_role_step, await_
 ghost use Rattle.steps.specs.Outcomes.{Does};
 
 use crate::cells::Cell;
-use crate::codes::{Coin, Mark, Role, pair};
+use crate::codes::{Coin, Mark, Role, Taken, pair};
 use crate::gate::Gate;
 use layout::BoxFault;
 use seats::{Place, Seat};
@@ -32,20 +32,20 @@ impl<S: Store> Gate<'_, S> {
     {
         match coin {
             Coin::TryKing => {
-                if self.swap(Cell::Count, 0, 1)? {
+                if self.swap_count(Taken::ByNobody, Taken::ByKing)? {
                     self.write_role(Role::King)?;
                     seat.aim = seat.height;
                     seat.place = Place::MarkApply;
                 }
             }
             Coin::TryQueen => {
-                if self.swap(Cell::Count, 1, 2)? {
+                if self.swap_count(Taken::ByKing, Taken::ByBoth)? {
                     self.write_role(Role::Queen)?;
                     seat.place = Place::AwaitKing;
                 }
             }
             Coin::TryPawn => {
-                if self.read(Cell::Count)? == 2 {
+                if self.read(Cell::Count)? == u64::from(Taken::ByBoth) {
                     self.write_role(Role::Pawn)?;
                     seat.place = Place::AwaitPromotion;
                 }
@@ -74,7 +74,7 @@ impl<S: Store> Gate<'_, S> {
         ensures store { self.new.store.ghost_name ≡ self.old.store.ghost_name }
         ensures does { Does (recheck_count_step self.old.at seat.old (S.words self.old.store.now)) (told result) (S.words self.new.store.now) seat.new }
     {
-        seat.place = if self.read(Cell::Count)? == 2 {
+        seat.place = if self.read(Cell::Count)? == u64::from(Taken::ByBoth) {
             Place::AwaitPromotion
         } else {
             Place::RaceForRole

@@ -1,5 +1,5 @@
 ghost use Rattle.std.specs.Prelude.{◌≡◌, ◌<◌, ◌≤◌, Some, None, MatchResult};
-ghost use Rattle.steps.specs.Codes.{mark_number, mark_of, pair, role_number, role_of};
+ghost use Rattle.steps.specs.Codes.{mark_number, mark_of, pair, taken_number, role_number, role_of};
 ghost use Rattle.steps.specs.Polls.{coin_of};
 
 use layout::Passage;
@@ -37,7 +37,24 @@ pub(crate) fn pair(number: Passage, mark: Mark) -> u64
     u64::from(number.0) * 4 + mark as u64
 }
 
-// What a seat has become at a gate.
+// Who has taken a gate: the word in Count.
+#[derive(Clone, Copy, PartialEq, Eq, Debug)]
+pub enum Taken {
+    ByNobody,
+    ByKing,
+    // by king and queen, or by who came after them
+    ByBoth,
+}
+
+impl From<Taken> for u64 {
+    ghost from_gives = { λ taken word. word ≡ taken_number taken };
+
+    fn from(taken: Taken) -> Self {
+        taken as u64
+    }
+}
+
+// What a seat has become at a gate: the word in Role.
 #[derive(Clone, Copy, PartialEq, Eq, Debug)]
 pub enum Role {
     Nobody,

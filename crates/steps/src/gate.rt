@@ -1,12 +1,12 @@
 ghost use Rattle.std.specs.Prelude.{◌≡◌, ◌<◌, ◌≤◌, length, Ok};
 ghost use Rattle.layout.specs.Gates.{heights_of};
 ghost use Rattle.layout.specs.Refusals.{refusal_of, unfit as unfit_word};
-ghost use Rattle.steps.specs.Codes.{cell_at, role_number};
+ghost use Rattle.steps.specs.Codes.{cell_at, taken_number, role_number};
 ghost use Rattle.steps.specs.Outcomes.{Room, word, holds, put, swapped, pair_promoted};
-ghost use Rattle.steps.specs.declared.cells.Cell.TheVariants.{Role as RoleOf};
+ghost use Rattle.steps.specs.declared.cells.Cell.TheVariants.{Count, Role as RoleOf};
 
 use crate::cells::Cell;
-use crate::codes::{Mark, Role, pair};
+use crate::codes::{Mark, Role, Taken, pair};
 use layout::{BoxFault, Meeting, Passage, WayId};
 use store::Store;
 
@@ -60,6 +60,16 @@ impl<'a, S: Store> Gate<'a, S> {
         ensures after { S.words self.new.store.now ≡ swapped (S.words self.old.store.now) self.old.at cell old new }
     {
         Ok(self.store.swap(cell.position(self.at), old, new)?)
+    }
+
+    // Lets the gate be taken by others than before, if it is taken as `old` says, and says whether it was.
+    pub(crate) fn swap_count(&mut self, old: Taken, new: Taken) -> Result<bool, BoxFault>
+        ensures store { self.new.store.ghost_name ≡ self.old.store.ghost_name }
+        ensures at { self.new.at ≡ self.old.at }
+        ensures answer { result ≡ Ok (holds (S.words self.old.store.now) self.old.at Count (taken_number old)) }
+        ensures after { S.words self.new.store.now ≡ swapped (S.words self.old.store.now) self.old.at Count (taken_number old) (taken_number new) }
+    {
+        self.swap(Cell::Count, u64::from(old), u64::from(new))
     }
 
     // Writes what the seat has become.

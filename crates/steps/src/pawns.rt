@@ -13,7 +13,7 @@ use layout::{BoxFault, Passage, WayId};
 use std::array;
 use store::Store;
 
-// The pawn word: a passage number and a state for each way of a gate.
+// The pawn word: a passage number and a state for each way of a gate. The store's format is one word, no array of pairs.
 #[derive(Clone, Copy, PartialEq, Eq, Debug)]
 pub struct PawnSet(pub u64);
 

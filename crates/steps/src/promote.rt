@@ -3,7 +3,7 @@ ghost use Rattle.layout.specs.Refusals.{told};
 ghost use Rattle.steps.specs.Promote.{promote_pawn_step, open_gate_step, mark_promoted_step};
 ghost use Rattle.steps.specs.Outcomes.{Does};
 
-use crate::cells::Cell;
+use crate::codes::Taken;
 use crate::gate::Gate;
 use crate::wins::closing_place;
 use layout::BoxFault;
@@ -33,7 +33,7 @@ impl<S: Store> Gate<'_, S> {
         ensures store { self.new.store.ghost_name ≡ self.old.store.ghost_name }
         ensures does { Does (open_gate_step self.old.at seat.old (S.words self.old.store.now)) (told result) (S.words self.new.store.now) seat.new }
     {
-        self.swap(Cell::Count, 2, 0)?;
+        self.swap_count(Taken::ByBoth, Taken::ByNobody)?;
         seat.place = closing_place(seat);
         Ok(())
     }

@@ -4,7 +4,7 @@ ghost use Rattle.steps.specs.Release.{read_role_step, open_alone_step, hand_over
 ghost use Rattle.steps.specs.Outcomes.{Does};
 
 use crate::cells::Cell;
-use crate::codes::{Mark, Role, pair};
+use crate::codes::{Mark, Role, Taken, pair};
 use crate::gate::Gate;
 use layout::{BoxFault, Passage, WayId};
 use seats::{Place, Seat};
@@ -31,7 +31,7 @@ impl<S: Store> Gate<'_, S> {
         ensures store { self.new.store.ghost_name ≡ self.old.store.ghost_name }
         ensures does { Does (open_alone_step self.old.at seat.old (S.words self.old.store.now)) (told result) (S.words self.new.store.now) seat.new }
     {
-        seat.place = if self.swap(Cell::Count, 1, 0)? {
+        seat.place = if self.swap_count(Taken::ByKing, Taken::ByNobody)? {
             Place::ReadApply
         } else {
             Place::HandOver

@@ -11,8 +11,8 @@ use seats::{Place, Seat};
 use store::Store;
 
 impl<S: Store> Gate<'_, S> {
-    // The step of the seat's place. The place is kept in the seat's record as a variant, so a `match` says which step it
-    // means; closures or `dyn` would need the same table, from places to steps.
+    // The step of the seat's place.
+    // A `match`: the place is a variant in the seat's record, and a table of closures would list the places once more.
     pub(crate) fn step(&mut self, seat: &mut Seat, coin: Coin) -> Result<(), BoxFault>
         requires { Ready self.old.at.ways seat.old }
         ensures store { self.new.store.ghost_name ≡ self.old.store.ghost_name }
