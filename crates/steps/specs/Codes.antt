@@ -1,11 +1,11 @@
 -- The numbers that the cells hold. Assumes nothing.
---     mark_number x  the state in a pair: empty 0, REG 1, PRO 2, ABORT 3
---     mark_of x      the state in a pair
---     pair n x       the word of passage n in state x; reg n and pro n are two such words
---     taken_number t the word in Count: by nobody 0, by a king 1, by king and queen 2
---     role_number r  the word in Role: none 0, king 1, queen 2, pawn 3, promoted pawn 4
---     role_of x      the role that a word means, if it means one
---     cell_at m c    where a cell of the gate of a meeting lies in the store
+--     mark_number x   the state in a pair as a number: empty 0, REG 1, PRO 2, ABORT 3
+--     mark_of x       the state in the pair x
+--     pair n x        the word of passage n in state x; reg n and pro n are two such words
+--     taken_number t  the word in Count: taken by nobody 0, by a king 1, by king and queen 2
+--     role_number r   the word in Role: none 0, king 1, queen 2, pawn 3, promoted pawn 4
+--     role_of x       the role that a word means, if it means one
+--     cell_at m c     where a cell of the gate of a meeting lies in the store
 use Rattle.std.specs.Prelude.{ℕ, ◌+◌, ◌*◌, ◌%◌, cond, Some, None, Option, ◌==◌}
 use Rattle.layout.specs.declared.path.Meeting.{Meeting}
 use Rattle.layout.specs.Gates.{count_cell, sync_one, sync_two, pawns_cell, apply_cell, role_cell}

@@ -1,4 +1,4 @@
-ghost use Rattle.std.specs.Prelude.{◌≡◌, ◌<◌, ◌≤◌, length};
+ghost use Rattle.std.specs.Prelude.{◌≡◌, ◌≤◌};
 ghost use Rattle.layout.specs.Gates.{heights_of};
 ghost use Rattle.layout.specs.Refusals.{told};
 ghost use Rattle.steps.specs.Abort.{close_apply_step, abort_pawn_step, abort_queen_step, accept_gate_step, withdraw_apply_step};

@@ -1,4 +1,4 @@
-ghost use Rattle.std.specs.Prelude.{◌≡◌, ◌<◌, ◌≤◌, length};
+ghost use Rattle.std.specs.Prelude.{◌≡◌, ◌≤◌};
 ghost use Rattle.layout.specs.Gates.{heights_of};
 ghost use Rattle.layout.specs.Refusals.{told};
 ghost use Rattle.steps.specs.Climb.{claim_apply_step, race_for_role_step, await_promotion_step, recheck_count_step, await_king_step, mark_apply_step};

@@ -1,4 +1,4 @@
-ghost use Rattle.std.specs.Prelude.{◌≡◌, ◌<◌, ◌≤◌, length};
+ghost use Rattle.std.specs.Prelude.{◌≡◌, ◌<◌};
 ghost use Rattle.layout.specs.Refusals.{told};
 ghost use Rattle.steps.specs.Collect.{waiting, scan_apply_step, collect_pawns_step};
 ghost use Rattle.steps.specs.Pawns.{Notable};

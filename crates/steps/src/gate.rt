@@ -10,7 +10,8 @@ use crate::codes::{Mark, Role, Taken, pair};
 use layout::{BoxFault, Meeting, Passage, WayId};
 use store::Store;
 
-// A gate as a seat meets it, in a store that has all its cells. The steps of the places are its methods.
+// A gate as a seat meets it, in a store that has all its cells. The steps of the places are its methods. Each says that
+// `store` stays the same reference, since a caller knows only then what its store holds afterwards.
 #[derive(Drop)]
 pub struct Gate<'a, S: Store> {
     store: &'a mut S,

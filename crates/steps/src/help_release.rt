@@ -1,4 +1,4 @@
-ghost use Rattle.std.specs.Prelude.{◌≡◌, ◌<◌, ◌≤◌, length};
+ghost use Rattle.std.specs.Prelude.{◌≡◌, ◌<◌, length};
 ghost use Rattle.layout.specs.Refusals.{told};
 ghost use Rattle.steps.specs.HelpRelease.{race_to_close_step, read_sync_two_step};
 ghost use Rattle.steps.specs.Codes.{cell_at};

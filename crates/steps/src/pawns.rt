@@ -1,4 +1,4 @@
-ghost use Rattle.std.specs.Prelude.{◌≡◌, ◌%◌, ◌<◌, ◌≤◌, length, IfSome, Ok};
+ghost use Rattle.std.specs.Prelude.{◌≡◌, ◌%◌, ◌<◌, ◌≤◌, IfSome, Ok};
 ghost use Rattle.steps.specs.declared.cells.Cell.TheVariants.{Pawns};
 ghost use Rattle.steps.specs.Codes.{mark_number, pair};
 ghost use Rattle.steps.specs.Outcomes.{word, put};

@@ -1,4 +1,4 @@
-ghost use Rattle.std.specs.Prelude.{◌≡◌, ◌<◌, ◌≤◌, length};
+ghost use Rattle.std.specs.Prelude.{◌≡◌, ◌<◌};
 ghost use Rattle.layout.specs.Refusals.{told};
 ghost use Rattle.steps.specs.Promote.{promote_pawn_step, open_gate_step, mark_promoted_step};
 ghost use Rattle.steps.specs.Outcomes.{Does};
