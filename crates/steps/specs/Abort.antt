@@ -12,13 +12,13 @@ use Rattle.seats.specs.declared.place.Place.TheVariants.{AbortPawn, AbortQueen, 
 use Rattle.seats.specs.Places.{within}
 use Rattle.seats.specs.Seats.{goes_to, aims, scans, backed_out}
 use Rattle.steps.specs.declared.cells.Cell.TheVariants.{SyncOne, Pawns, Apply, Role}
-use Rattle.steps.specs.Codes.{reg, pro}
+use Rattle.steps.specs.Codes.{pro}
 use Rattle.steps.specs.Pawns.{abort_of}
-use Rattle.steps.specs.Outcomes.{Outcome, did, unfit_at, word, holds, put, swapped, captured}
+use Rattle.steps.specs.Outcomes.{Outcome, did, unfit_at, word, holds, put, swapped, pair_promoted, captured}
 
 abbrev pub close_apply_step : Meeting → Seat → List ℕ → Outcome (Unit {0})
 close_apply_step m s ws =
-    did (swapped ws m (Apply m.way) (reg s.passage.0) (pro s.passage.0))
+    did (pair_promoted ws m m.way s.passage.0)
     (goes_to s (cond (holds ws m (Role m.way) 2) AbortQueen AbortPawn))
 
 abbrev pub aborted_by : Option ℕ → Meeting → Seat → List ℕ → Outcome (Unit {0})

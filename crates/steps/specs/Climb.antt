@@ -16,7 +16,7 @@ use Rattle.steps.specs.declared.codes.Coin.{Coin}
 use Rattle.steps.specs.declared.codes.Coin.TheVariants.{TryKing, TryQueen, TryPawn}
 use Rattle.steps.specs.declared.cells.Cell.TheVariants.{Count, SyncOne, Apply, Role}
 use Rattle.steps.specs.Codes.{reg, pro}
-use Rattle.steps.specs.Outcomes.{Outcome, did, unfit_at, word, holds, put, swapped, captured}
+use Rattle.steps.specs.Outcomes.{Outcome, did, unfit_at, word, holds, put, pair_promoted, captured}
 
 abbrev pub claim_apply_step : Meeting → Seat → List ℕ → Outcome (Unit {0})
 claim_apply_step m s ws =
@@ -51,5 +51,4 @@ await_king_step m s ws =
     (unfit_at m SyncOne ws s))
 
 abbrev pub mark_apply_step : Meeting → Seat → List ℕ → Outcome (Unit {0})
-mark_apply_step m s ws =
-    did (swapped ws m (Apply m.way) (reg s.passage.0) (pro s.passage.0)) (captured m s)
+mark_apply_step m s ws = did (pair_promoted ws m m.way s.passage.0) (captured m s)

@@ -8,9 +8,8 @@ use Rattle.seats.specs.declared.seat.Seat.{Seat}
 use Rattle.seats.specs.declared.place.Place.TheVariants.{ClearSyncOne, ReadSyncTwo, ClearSyncTwo, StrikeOut, StrikeSelf}
 use Rattle.seats.specs.Places.{within}
 use Rattle.seats.specs.Seats.{goes_to, keeps_for}
-use Rattle.steps.specs.declared.cells.Cell.TheVariants.{SyncOne, SyncTwo, Pawns}
-use Rattle.steps.specs.Pawns.{remove_word}
-use Rattle.steps.specs.Outcomes.{Outcome, did, unfit_at, word, holds, put, closes}
+use Rattle.steps.specs.declared.cells.Cell.TheVariants.{SyncOne, SyncTwo}
+use Rattle.steps.specs.Outcomes.{Outcome, did, unfit_at, word, holds, put, clears, strikes, closes}
 
 abbrev pub race_to_close_step : Meeting → Seat → List ℕ → Outcome (Unit {0})
 race_to_close_step m s ws =
@@ -18,7 +17,7 @@ race_to_close_step m s ws =
     (did ws (goes_to s ClearSyncOne))
 
 abbrev pub clear_sync_one_step : Meeting → Seat → List ℕ → Outcome (Unit {0})
-clear_sync_one_step m s ws = did (put ws m SyncOne 0) (goes_to s ReadSyncTwo)
+clear_sync_one_step m s ws = clears SyncOne ReadSyncTwo m s ws
 
 abbrev pub read_sync_two_step : Meeting → Seat → List ℕ → Outcome (Unit {0})
 read_sync_two_step m s ws =
@@ -27,8 +26,7 @@ read_sync_two_step m s ws =
     (unfit_at m SyncTwo ws s)
 
 abbrev pub clear_sync_two_step : Meeting → Seat → List ℕ → Outcome (Unit {0})
-clear_sync_two_step m s ws = did (put ws m SyncTwo 0) (goes_to s StrikeOut)
+clear_sync_two_step m s ws = clears SyncTwo StrikeOut m s ws
 
 abbrev pub strike_out_step : Meeting → Seat → List ℕ → Outcome (Unit {0})
-strike_out_step m s ws =
-    did (put ws m Pawns (remove_word (word ws m Pawns) s.kept_way.0)) (goes_to s StrikeSelf)
+strike_out_step m s ws = strikes s.kept_way.0 StrikeSelf m s ws

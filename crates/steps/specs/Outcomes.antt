@@ -8,11 +8,14 @@
 --     word ws m c         the word in a cell of the gate; holds ws m c x says that it is x
 --     put ws m c x        the cells with x in a cell of the gate
 --     swapped ws m c x y  the cells with y in a cell of the gate if it held x
+--     pair_promoted       the cells with the pair of a passage at a way promoted, if it waits there
+--     clears, strikes     a cell is set to 0, or a way struck out of the pawns, and the seat goes to another place
 --     closes s            the place at which the seat withdraws its application: 48 when leaving, 32 when climbing
 --     captured m s        the seat that has won the gates up to its aim
 use Rattle.std.specs.Prelude.{◌≡◌, ℕ, ◌+◌, ◌<◌, ◌≤◌, Bool, cond, List, Ok, Err, Result, ◌==◌, slice_set}
 use Rattle.store.specs.Words.{held}
 use Rattle.layout.specs.declared.fault.Refusal.{Refusal}
+use Rattle.layout.specs.declared.ids.WayId.{WayId}
 use Rattle.layout.specs.declared.path.Meeting.{Meeting}
 use Rattle.layout.specs.Gates.{gate_cells, heights_of}
 use Rattle.layout.specs.Refusals.{unfit}
@@ -21,10 +24,11 @@ use Rattle.seats.specs.declared.state.State.{State}
 use Rattle.seats.specs.declared.state.State.TheVariants.{Away, Climbing, Holding, Leaving}
 use Rattle.seats.specs.declared.place.Place.{Place}
 use Rattle.seats.specs.declared.place.Place.TheVariants.{Rest, ClaimApply, WithdrawApply, ReadApply}
-use Rattle.seats.specs.Seats.{moved, backed_out}
+use Rattle.seats.specs.Seats.{moved, goes_to, backed_out}
 use Rattle.steps.specs.declared.cells.Cell.{Cell}
-use Rattle.steps.specs.Codes.{cell_at}
-use Rattle.steps.specs.Pawns.{Notable}
+use Rattle.steps.specs.declared.cells.Cell.TheVariants.{Pawns, Apply}
+use Rattle.steps.specs.Codes.{cell_at, reg, pro}
+use Rattle.steps.specs.Pawns.{Notable, remove_word}
 
 pub record Outcome (A : Type 0) : Type 0 where
   pub answer : Result A Refusal
@@ -69,6 +73,18 @@ put ws m c x = slice_set ws (cell_at m c) x
 
 abbrev pub swapped : List ℕ → Meeting → Cell → ℕ → ℕ → List ℕ
 swapped ws m c x y = cond (holds ws m c x) (put ws m c y) ws
+
+-- the pair of passage n at way j promoted, if it is there and waits
+abbrev pub pair_promoted : List ℕ → Meeting → WayId → ℕ → List ℕ
+pair_promoted ws m j n = swapped ws m (Apply j) (reg n) (pro n)
+
+-- a cell set to 0, and then another place
+abbrev pub clears : Cell → Place → Meeting → Seat → List ℕ → Outcome (Unit {0})
+clears c p m s ws = did (put ws m c 0) (goes_to s p)
+
+-- a way struck out of the pawns, and then another place
+abbrev pub strikes : ℕ → Place → Meeting → Seat → List ℕ → Outcome (Unit {0})
+strikes j p m s ws = did (put ws m Pawns (remove_word (word ws m Pawns) j)) (goes_to s p)
 
 abbrev pub closes_in : State → Place
 closes_in Away = WithdrawApply

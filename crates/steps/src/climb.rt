@@ -1,143 +1,109 @@
-ghost use Rattle.std.specs.Prelude.{◌≤◌, length};
+ghost use Rattle.std.specs.Prelude.{◌≡◌, ◌≤◌};
 ghost use Rattle.layout.specs.Gates.{heights_of};
 ghost use Rattle.layout.specs.Refusals.{told};
 ghost use Rattle.steps.specs.Climb.{claim_apply_step, race_for_role_step, await_promotion_step, recheck_count_step, await_king_step, mark_apply_step};
-ghost use Rattle.steps.specs.Outcomes.{Does, Room};
+ghost use Rattle.steps.specs.Outcomes.{Does};
 
-use crate::cells::{Cell, read, swap, write};
-use crate::codes::{Coin, Mark, Role, pair};
-use crate::wins::{capture, handed_height, unfit};
-use layout::{BoxFault, Meeting};
+use crate::cells::Cell;
+use crate::codes::{Coin, Mark, Role, Taken, pair};
+use crate::gate::Gate;
+use layout::BoxFault;
 use seats::{Place, Seat};
 use store::Store;
 
-// Place 2: enters by its way, if nobody is there.
-pub(crate) fn claim_apply<S: Store>(
-    store: &mut S,
-    seat: &mut Seat,
-    at: Meeting,
-) -> Result<(), BoxFault>
-    requires room { Room at (length (S.words store.old)) }
-    ensures { Does (claim_apply_step at seat.old (S.words store.old)) (told result) (S.words store.new) seat.new }
-{
-    let cell = Cell::Apply(at.way);
-    if swap(store, at, cell, 0, pair(seat.passage, Mark::Reg))? {
-        write(store, at, Cell::Role(at.way), Role::Nobody.word())?;
-        seat.place = Place::RaceForRole;
+impl<S: Store> Gate<'_, S> {
+    // Place 2: enters by its way, if nobody is there.
+    pub(crate) fn claim_apply(&mut self, seat: &mut Seat) -> Result<(), BoxFault>
+        ensures store { self.new.store.ghost_name ≡ self.old.store.ghost_name }
+        ensures does { Does (claim_apply_step self.old.at seat.old (S.words self.old.store.now)) (told result) (S.words self.new.store.now) seat.new }
+    {
+        let own = Cell::Apply(self.at.way);
+        if self.swap(own, 0, pair(seat.passage, Mark::Reg))? {
+            self.write_role(Role::Nobody)?;
+            seat.place = Place::RaceForRole;
+        }
+        Ok(())
     }
-    Ok(())
-}
 
-// Place 5: becomes king, queen or pawn, as the coin says, if that is to be had.
-pub(crate) fn race_for_role<S: Store>(
-    store: &mut S,
-    seat: &mut Seat,
-    at: Meeting,
-    coin: Coin,
-) -> Result<(), BoxFault>
-    requires room { Room at (length (S.words store.old)) }
-    ensures { Does (race_for_role_step coin at seat.old (S.words store.old)) (told result) (S.words store.new) seat.new }
-{
-    let role = Cell::Role(at.way);
-    match coin {
-        Coin::TryKing => {
-            if swap(store, at, Cell::Count, 0, 1)? {
-                write(store, at, role, Role::King.word())?;
-                seat.aim = seat.height;
-                seat.place = Place::MarkApply;
+    // Place 5: becomes king, queen or pawn, as the coin says, if that is to be had.
+    pub(crate) fn race_for_role(&mut self, seat: &mut Seat, coin: Coin) -> Result<(), BoxFault>
+        ensures store { self.new.store.ghost_name ≡ self.old.store.ghost_name }
+        ensures does { Does (race_for_role_step coin self.old.at seat.old (S.words self.old.store.now)) (told result) (S.words self.new.store.now) seat.new }
+    {
+        match coin {
+            Coin::TryKing => {
+                if self.swap_count(Taken::ByNobody, Taken::ByKing)? {
+                    self.write_role(Role::King)?;
+                    seat.aim = seat.height;
+                    seat.place = Place::MarkApply;
+                }
+            }
+            Coin::TryQueen => {
+                if self.swap_count(Taken::ByKing, Taken::ByBoth)? {
+                    self.write_role(Role::Queen)?;
+                    seat.place = Place::AwaitKing;
+                }
+            }
+            Coin::TryPawn => {
+                if self.read(Cell::Count)? == u64::from(Taken::ByBoth) {
+                    self.write_role(Role::Pawn)?;
+                    seat.place = Place::AwaitPromotion;
+                }
             }
         }
-        Coin::TryQueen => {
-            if swap(store, at, Cell::Count, 1, 2)? {
-                write(store, at, role, Role::Queen.word())?;
-                seat.place = Place::AwaitKing;
-            }
-        }
-        Coin::TryPawn => {
-            if read(store, at, Cell::Count)? == 2 {
-                write(store, at, role, Role::Pawn.word())?;
-                seat.place = Place::AwaitPromotion;
-            }
-        }
+        Ok(())
     }
-    Ok(())
-}
 
-// Place 7: goes on as a promoted pawn, if it has been promoted.
-pub(crate) fn await_promotion<S: Store>(
-    store: &mut S,
-    seat: &mut Seat,
-    at: Meeting,
-) -> Result<(), BoxFault>
-    requires room { Room at (length (S.words store.old)) }
-    ensures { Does (await_promotion_step at seat.old (S.words store.old)) (told result) (S.words store.new) seat.new }
-{
-    if read(store, at, Cell::Apply(at.way))? == pair(seat.passage, Mark::Pro) {
-        write(store, at, Cell::Role(at.way), Role::PromotedPawn.word())?;
-        seat.aim = seat.height;
+    // Place 7: goes on as a promoted pawn, if it has been promoted.
+    pub(crate) fn await_promotion(&mut self, seat: &mut Seat) -> Result<(), BoxFault>
+        ensures store { self.new.store.ghost_name ≡ self.old.store.ghost_name }
+        ensures does { Does (await_promotion_step self.old.at seat.old (S.words self.old.store.now)) (told result) (S.words self.new.store.now) seat.new }
+    {
+        if self.read(Cell::Apply(self.at.way))? == pair(seat.passage, Mark::Pro) {
+            self.write_role(Role::PromotedPawn)?;
+            seat.aim = seat.height;
+            seat.place = Place::MarkApply;
+        } else {
+            seat.place = Place::RecheckCount;
+        }
+        Ok(())
+    }
+
+    // Place 8: tries for a role again, once the gate is no longer taken by king and queen.
+    pub(crate) fn recheck_count(&mut self, seat: &mut Seat) -> Result<(), BoxFault>
+        ensures store { self.new.store.ghost_name ≡ self.old.store.ghost_name }
+        ensures does { Does (recheck_count_step self.old.at seat.old (S.words self.old.store.now)) (told result) (S.words self.new.store.now) seat.new }
+    {
+        seat.place = if self.read(Cell::Count)? == u64::from(Taken::ByBoth) {
+            Place::AwaitPromotion
+        } else {
+            Place::RaceForRole
+        };
+        Ok(())
+    }
+
+    // Place 14: the queen waits until the king has handed over.
+    pub(crate) fn await_king(&mut self, seat: &mut Seat) -> Result<(), BoxFault>
+        ensures store { self.new.store.ghost_name ≡ self.old.store.ghost_name }
+        ensures does { Does (await_king_step self.old.at seat.old (S.words self.old.store.now)) (told result) (S.words self.new.store.now) seat.new }
+    {
+        let word = self.read(Cell::SyncOne)?;
+        if word == 0 {
+            return Ok(());
+        }
+        seat.aim = self.handed_height(word, seat.height)?;
         seat.place = Place::MarkApply;
-    } else {
-        seat.place = Place::RecheckCount;
+        Ok(())
     }
-    Ok(())
-}
 
-// Place 8: tries for a role again, once the gate is no longer taken by king and queen.
-pub(crate) fn recheck_count<S: Store>(
-    store: &mut S,
-    seat: &mut Seat,
-    at: Meeting,
-) -> Result<(), BoxFault>
-    requires room { Room at (length (S.words store.old)) }
-    ensures { Does (recheck_count_step at seat.old (S.words store.old)) (told result) (S.words store.new) seat.new }
-{
-    if read(store, at, Cell::Count)? == 2 {
-        seat.place = Place::AwaitPromotion;
-    } else {
-        seat.place = Place::RaceForRole;
+    // Place 16: wins the gates up to its aim.
+    pub(crate) fn mark_apply(&mut self, seat: &mut Seat) -> Result<(), BoxFault>
+        requires aim { seat.old.aim ≤ heights_of self.old.at.ways }
+        ensures store { self.new.store.ghost_name ≡ self.old.store.ghost_name }
+        ensures does { Does (mark_apply_step self.old.at seat.old (S.words self.old.store.now)) (told result) (S.words self.new.store.now) seat.new }
+    {
+        self.promote_pair(self.at.way, seat.passage)?;
+        *seat = self.capture(*seat);
+        Ok(())
     }
-    Ok(())
-}
-
-// Place 14: the queen waits until the king has handed over.
-pub(crate) fn await_king<S: Store>(
-    store: &mut S,
-    seat: &mut Seat,
-    at: Meeting,
-) -> Result<(), BoxFault>
-    requires room { Room at (length (S.words store.old)) }
-    ensures { Does (await_king_step at seat.old (S.words store.old)) (told result) (S.words store.new) seat.new }
-{
-    let word = read(store, at, Cell::SyncOne)?;
-    if word == 0 {
-        return Ok(());
-    }
-    let Some(height) = handed_height(word, seat.height, at) else {
-        return Err(unfit(at, Cell::SyncOne));
-    };
-    seat.aim = height;
-    seat.place = Place::MarkApply;
-    Ok(())
-}
-
-// Place 16: wins the gates up to its aim.
-pub(crate) fn mark_apply<S: Store>(
-    store: &mut S,
-    seat: &mut Seat,
-    at: Meeting,
-) -> Result<(), BoxFault>
-    requires room { Room at (length (S.words store.old)) }
-    requires aim { seat.old.aim ≤ heights_of at.ways }
-    ensures { Does (mark_apply_step at seat.old (S.words store.old)) (told result) (S.words store.new) seat.new }
-{
-    let own = seat.passage;
-    swap(
-        store,
-        at,
-        Cell::Apply(at.way),
-        pair(own, Mark::Reg),
-        pair(own, Mark::Pro),
-    )?;
-    *seat = capture(*seat, at);
-    Ok(())
 }

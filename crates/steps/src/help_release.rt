@@ -1,92 +1,70 @@
-ghost use Rattle.std.specs.Prelude.{◌<◌, length};
+ghost use Rattle.std.specs.Prelude.{◌≡◌, ◌<◌, length};
 ghost use Rattle.layout.specs.Refusals.{told};
-ghost use Rattle.steps.specs.HelpRelease.{race_to_close_step, clear_sync_one_step, read_sync_two_step, clear_sync_two_step, strike_out_step};
-ghost use Rattle.steps.specs.Outcomes.{Does, Room};
+ghost use Rattle.steps.specs.HelpRelease.{race_to_close_step, read_sync_two_step};
+ghost use Rattle.steps.specs.Codes.{cell_at};
+ghost use Rattle.steps.specs.Outcomes.{Does, clears, strikes};
 
-use crate::cells::{Cell, read, swap, write};
-use crate::pawns::{PawnSet, write_pawns};
-use crate::wins::{closing_place, unfit};
-use layout::{BoxFault, Meeting, WayId};
+use crate::cells::Cell;
+use crate::gate::Gate;
+use crate::wins::closing_place;
+use layout::{BoxFault, WayId};
 use seats::{Place, Seat};
 use store::Store;
 
-// Place 56: of king and queen, the first to come closes, and the second frees the gate.
-pub(crate) fn race_to_close<S: Store>(
-    store: &mut S,
-    seat: &mut Seat,
-    at: Meeting,
-) -> Result<(), BoxFault>
-    requires room { Room at (length (S.words store.old)) }
-    ensures { Does (race_to_close_step at seat.old (S.words store.old)) (told result) (S.words store.new) seat.new }
-{
-    if swap(store, at, Cell::SyncTwo, 0, u64::from(at.way.0) + 1)? {
-        seat.place = closing_place(seat);
-    } else {
-        seat.place = Place::ClearSyncOne;
+impl<S: Store> Gate<'_, S> {
+    // Place 56: of king and queen, the first to come closes, and the second frees the gate.
+    pub(crate) fn race_to_close(&mut self, seat: &mut Seat) -> Result<(), BoxFault>
+        ensures store { self.new.store.ghost_name ≡ self.old.store.ghost_name }
+        ensures does { Does (race_to_close_step self.old.at seat.old (S.words self.old.store.now)) (told result) (S.words self.new.store.now) seat.new }
+    {
+        let own = u64::from(self.at.way.0) + 1;
+        seat.place = if self.swap(Cell::SyncTwo, 0, own)? {
+            closing_place(seat)
+        } else {
+            Place::ClearSyncOne
+        };
+        Ok(())
     }
-    Ok(())
-}
 
-// Place 58: forgets the hand-over.
-pub(crate) fn clear_sync_one<S: Store>(
-    store: &mut S,
-    seat: &mut Seat,
-    at: Meeting,
-) -> Result<(), BoxFault>
-    requires room { Room at (length (S.words store.old)) }
-    ensures { Does (clear_sync_one_step at seat.old (S.words store.old)) (told result) (S.words store.new) seat.new }
-{
-    write(store, at, Cell::SyncOne, 0)?;
-    seat.place = Place::ReadSyncTwo;
-    Ok(())
-}
-
-// Place 59: keeps the way of the first to close.
-pub(crate) fn read_sync_two<S: Store>(
-    store: &mut S,
-    seat: &mut Seat,
-    at: Meeting,
-) -> Result<(), BoxFault>
-    requires room { Room at (length (S.words store.old)) }
-    ensures { Does (read_sync_two_step at seat.old (S.words store.old)) (told result) (S.words store.new) seat.new }
-{
-    let word = read(store, at, Cell::SyncTwo)?;
-    if word < 1 || word > u64::from(at.ways) {
-        return Err(unfit(at, Cell::SyncTwo));
+    // Places 58, 60 and 67: empties a cell, and goes on at a place.
+    pub(crate) fn clear(&mut self, cell: Cell, seat: &mut Seat, next: Place) -> Result<(), BoxFault>
+        requires { cell_at self.old.at cell < length (S.words self.old.store.now) }
+        ensures store { self.new.store.ghost_name ≡ self.old.store.ghost_name }
+        ensures does { Does (clears cell next self.old.at seat.old (S.words self.old.store.now)) (told result) (S.words self.new.store.now) seat.new }
+    {
+        self.write(cell, 0)?;
+        seat.place = next;
+        Ok(())
     }
-    seat.kept_way = WayId((word - 1) as u8);
-    seat.place = Place::ClearSyncTwo;
-    Ok(())
-}
 
-// Place 60: forgets who closed first.
-pub(crate) fn clear_sync_two<S: Store>(
-    store: &mut S,
-    seat: &mut Seat,
-    at: Meeting,
-) -> Result<(), BoxFault>
-    requires room { Room at (length (S.words store.old)) }
-    ensures { Does (clear_sync_two_step at seat.old (S.words store.old)) (told result) (S.words store.new) seat.new }
-{
-    write(store, at, Cell::SyncTwo, 0)?;
-    seat.place = Place::StrikeOut;
-    Ok(())
-}
+    // Place 59: keeps the way of the first to close.
+    pub(crate) fn read_sync_two(&mut self, seat: &mut Seat) -> Result<(), BoxFault>
+        ensures store { self.new.store.ghost_name ≡ self.old.store.ghost_name }
+        ensures does { Does (read_sync_two_step self.old.at seat.old (S.words self.old.store.now)) (told result) (S.words self.new.store.now) seat.new }
+    {
+        let word = self.read(Cell::SyncTwo)?;
+        if !(1..=u64::from(self.at.ways)).contains(&word) {
+            return Err(self.unfit(Cell::SyncTwo));
+        }
+        seat.kept_way = WayId((word - 1) as u8);
+        seat.place = Place::ClearSyncTwo;
+        Ok(())
+    }
 
-// Place 61: strikes out the first to close, whom a collect may have registered.
-pub(crate) fn strike_out<S: Store>(
-    store: &mut S,
-    seat: &mut Seat,
-    at: Meeting,
-) -> Result<(), BoxFault>
-    requires room { Room at (length (S.words store.old)) }
-    requires kept { seat.old.kept_way.0 < 4 }
-    ensures { Does (strike_out_step at seat.old (S.words store.old)) (told result) (S.words store.new) seat.new }
-{
-    let pawns = PawnSet(read(store, at, Cell::Pawns)?);
-    let mut others = pawns;
-    others.remove(seat.kept_way);
-    write_pawns(store, at, pawns, others)?;
-    seat.place = Place::StrikeSelf;
-    Ok(())
+    // Places 61 and 64: strikes a way out of the pawns, and goes on at a place. First it is the way of the first to
+    // close, whom a collect may have registered, and then the seat's own.
+    pub(crate) fn strike(
+        &mut self,
+        way: WayId,
+        seat: &mut Seat,
+        next: Place,
+    ) -> Result<(), BoxFault>
+        requires { way.0 < 4 }
+        ensures store { self.new.store.ghost_name ≡ self.old.store.ghost_name }
+        ensures does { Does (strikes way.0 next self.old.at seat.old (S.words self.old.store.now)) (told result) (S.words self.new.store.now) seat.new }
+    {
+        self.change_pawns(|pawns| pawns.remove(way))?;
+        seat.place = next;
+        Ok(())
+    }
 }

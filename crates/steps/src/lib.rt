@@ -6,6 +6,7 @@ mod cells;
 mod climb;
 mod codes;
 mod collect;
+mod gate;
 mod help_release;
 mod pawns;
 mod poll;

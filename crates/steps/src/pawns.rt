@@ -1,15 +1,20 @@
-ghost use Rattle.std.specs.Prelude.{◌≡◌, ◌%◌, ◌<◌, ◌≤◌, length, IfSome, Ok};
+ghost use Rattle.std.specs.Prelude.{◌≡◌, ◌%◌, ◌<◌, ◌≤◌, IfSome, Ok};
 ghost use Rattle.steps.specs.declared.cells.Cell.TheVariants.{Pawns};
-ghost use Rattle.steps.specs.Outcomes.{Room, word, put};
-ghost use Rattle.std.specs.Option.{option_map};
-ghost use Rattle.steps.specs.Pawns.{lanes, packed, lane, first_waiting_way, promote_word, promote_of, abort_of, remove_word, collect_lane, collect_word, Notable};
+ghost use Rattle.steps.specs.Codes.{mark_number, pair};
+ghost use Rattle.steps.specs.Outcomes.{word, put};
+ghost use Rattle.std.specs.Option.{is_some, unwrap_or};
+ghost use Rattle.std.specs.Fn.{FnOnceReturnsAtMut};
+ghost use Rattle.steps.specs.Pawns.{lanes, packed, lane as lane_of, first_waiting_way, promote_word, promote_of, abort_of, remove_word, collect_lane, collect_word, Notable};
 
-use crate::cells::{Cell, write};
-use layout::{BoxFault, Meeting, Passage, WayId};
+use crate::cells::Cell;
+use crate::codes::{Mark, pair};
+use crate::gate::Gate;
+use layout::{BoxFault, Passage, WayId};
+use std::array;
 use store::Store;
 
-// The pawn word: a passage number and a state for each way of a gate.
-#[derive(Clone, Copy)]
+// The pawn word: a passage number and a state for each way of a gate. The store's format is one word, no array of pairs.
+#[derive(Clone, Copy, PartialEq, Eq, Debug)]
 pub struct PawnSet(pub u64);
 
 impl PawnSet {
@@ -18,34 +23,30 @@ impl PawnSet {
         requires { Notable noted }
         ensures { self.new.0 ≡ collect_word self.old.0 ways noted }
     {
-        let mut pairs = unpack(self.0);
-        if 0 < ways {
-            pairs[0] = collected(pairs[0], noted[0]);
-        }
-        if 1 < ways {
-            pairs[1] = collected(pairs[1], noted[1]);
-        }
-        if 2 < ways {
-            pairs[2] = collected(pairs[2], noted[2]);
-        }
-        if 3 < ways {
-            pairs[3] = collected(pairs[3], noted[3]);
-        }
-        self.0 = pack(pairs);
+        let pairs = unpack(self.0);
+        self.0 = pack(array::from_fn(|way| {
+            if way < usize::from(ways) {
+                collected(pairs[way], noted[way])
+            } else {
+                pairs[way]
+            }
+        }));
     }
 
-    // The set after a way has given up as a passage, or none if it is promoted already.
-    pub(crate) fn abort(self, way: WayId, number: Passage) -> Option<PawnSet>
+    // Takes out a way that gives up as a passage, unless it is promoted already, and says whether it did.
+    pub(crate) fn abort(&mut self, way: WayId, number: Passage) -> bool
         requires { (way.0 < 4) × (number.0 ≤ 16383) }
-        ensures { option_map (λ s. s.0) result ≡ abort_of self.0 way.0 number.0 }
+        ensures answer { result ≡ is_some (abort_of self.old.0 way.0 number.0) }
+        ensures after { self.new.0 ≡ unwrap_or (abort_of self.old.0 way.0 number.0) self.old.0 }
     {
         let mut pairs = unpack(self.0);
         let i = usize::from(way.0);
-        if pairs[i] % 4 == 2 {
-            return None;
+        if Mark::of(pairs[i]) == Mark::Pro {
+            return false;
         }
-        pairs[i] = number.0 * 4 + 3;
-        Some(PawnSet(pack(pairs)))
+        pairs[i] = lane(number, Mark::Abort);
+        self.0 = pack(pairs);
+        true
     }
 
     // Promotes the lowest way below `ways` that waits, and answers it with its number.
@@ -55,10 +56,10 @@ impl PawnSet {
     {
         let mut pairs = unpack(self.0);
         let i = first_waiting(self.0, ways)?;
-        let number = pairs[i] / 4;
-        pairs[i] += 1;
+        let number = Passage(pairs[i] / 4);
+        pairs[i] = lane(number, Mark::Pro);
         self.0 = pack(pairs);
-        Some((WayId(i as u8), Passage(number)))
+        Some((WayId(i as u8), number))
     }
 
     // Strikes a way out.
@@ -68,49 +69,53 @@ impl PawnSet {
     {
         let mut pairs = unpack(self.0);
         let i = usize::from(way.0);
-        pairs[i] = pairs[i] / 4 * 4 + 3;
+        pairs[i] = lane(Passage(pairs[i] / 4), Mark::Abort);
         self.0 = pack(pairs);
     }
 }
 
-// Writes the pawn word back, if it has changed.
-pub(crate) fn write_pawns<S: Store>(
-    store: &mut S,
-    at: Meeting,
-    before: PawnSet,
-    after: PawnSet,
-) -> Result<(), BoxFault>
-    requires room { Room at (length (S.words store.old)) }
-    requires found { word (S.words store.old) at Pawns ≡ before.0 }
-    ensures answer { result ≡ Ok tt }
-    ensures after { S.words store.new ≡ put (S.words store.old) at Pawns after.0 }
-{
-    if after.0 != before.0 {
-        write(store, at, Cell::Pawns, after.0)?;
+impl<S: Store> Gate<'_, S> {
+    // Changes the pawns, and answers what the change answers. The word is written back if it has changed.
+    pub(crate) fn change_pawns<R: Drop, F: FnOnce(&mut PawnSet) -> R + Drop>(
+        &mut self,
+        change: F,
+    ) -> Result<R, BoxFault>
+        requires { F.IsAlwaysCallable change }
+        ensures store { self.new.store.ghost_name ≡ self.old.store.ghost_name }
+        ensures at { self.new.at ≡ self.old.at }
+        ensures changes { (r : R) × (x : PawnSet) × (result ≡ Ok r) × FnOnceReturnsAtMut F.FnOnce change (record { 0 = word (S.words self.old.store.now) self.old.at Pawns }) r x × (S.words self.new.store.now ≡ put (S.words self.old.store.now) self.old.at Pawns x.0) }
+    {
+        let before = PawnSet(self.read(Cell::Pawns)?);
+        let mut after = before;
+        let answer = change(&mut after);
+        if after != before {
+            self.write(Cell::Pawns, after.0)?;
+        }
+        Ok(answer)
     }
-    Ok(())
 }
 
 // The pairs of a word, that of way 0 first.
 fn unpack(word: u64) -> [u16; 4]
     ensures { result ≡ lanes word }
 {
-    [
-        (word % 65536) as u16,
-        (word / 65536 % 65536) as u16,
-        (word / 4294967296 % 65536) as u16,
-        (word / 281474976710656) as u16,
-    ]
+    [word, word >> 16, word >> 32, word >> 48].map(|rest| (rest % 65536) as u16)
 }
 
 // The word of four pairs.
 fn pack(pairs: [u16; 4]) -> u64
     ensures { result ≡ packed pairs }
 {
-    u64::from(pairs[0])
-        + u64::from(pairs[1]) * 65536
-        + u64::from(pairs[2]) * 4294967296
-        + u64::from(pairs[3]) * 281474976710656
+    let [a, b, c, d] = pairs.map(u64::from);
+    a + (b << 16) + (c << 32) + (d << 48)
+}
+
+// The pair of a passage number and a state.
+fn lane(number: Passage, mark: Mark) -> u16
+    requires { number.0 ≤ 16383 }
+    ensures { result ≡ pair number.0 (mark_number mark) }
+{
+    pair(number, mark) as u16
 }
 
 // A pair after a collect of a noted number.
@@ -118,28 +123,20 @@ fn collected(pair: u16, noted: u16) -> u16
     requires { noted ≤ 16383 }
     ensures { result ≡ collect_lane pair noted }
 {
-    if noted == 0 || pair % 4 == 3 {
+    if noted == 0 || Mark::of(pair) == Mark::Abort {
         pair
     } else {
-        noted * 4 + 1
+        lane(Passage(noted), Mark::Reg)
     }
 }
 
 // The lowest way below `ways` that waits.
 fn first_waiting(word: u64, ways: u8) -> Option<usize>
     ensures value { result ≡ first_waiting_way word ways }
-    ensures waits { IfSome result (λ i. (i < 4) × (lane word i % 4 ≡ 1)) }
+    ensures waits { IfSome result (λ i. (i < 4) × (lane_of word i % 4 ≡ 1)) }
 {
-    let pairs = unpack(word);
-    if 0 < ways && pairs[0] % 4 == 1 {
-        Some(0)
-    } else if 1 < ways && pairs[1] % 4 == 1 {
-        Some(1)
-    } else if 2 < ways && pairs[2] % 4 == 1 {
-        Some(2)
-    } else if 3 < ways && pairs[3] % 4 == 1 {
-        Some(3)
-    } else {
-        None
-    }
+    unpack(word)
+        .iter()
+        .take(usize::from(ways))
+        .position(|pair| Mark::of(*pair) == Mark::Reg)
 }

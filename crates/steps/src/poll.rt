@@ -5,7 +5,7 @@ ghost use Rattle.steps.specs.Outcomes.{Does};
 ghost use Rattle.steps.specs.Polls.{Asked, Due, Unchanged, poll_refusal, polled_seat};
 
 use crate::codes::Coin;
-use crate::step::step;
+use crate::gate::Gate;
 use layout::{BoxFault, Meeting, Passage, Path};
 use seats::{Seat, State};
 use store::Store;
@@ -22,7 +22,7 @@ pub fn poll_seat<S: Store>(
     ensures same { Unchanged result (S.words store.new) (S.words store.old) seat.new seat.old }
 {
     let due = due(store.size(), seat, path, passage, coin)?;
-    step(store, seat, due.at, due.coin)?;
+    Gate::new(store, due.at).step(seat, due.coin)?;
     Ok(seat.state)
 }
 
@@ -67,8 +67,5 @@ fn ask(size: usize, seat: &Seat, path: Path, passage: Passage, coin: u8) -> Resu
     if !matches!(seat.state, State::Climbing | State::Leaving) {
         return Err(BoxFault::WrongState(id));
     }
-    let Some(coin) = Coin::new(coin) else {
-        return Err(BoxFault::BadCoin(id));
-    };
-    Ok(coin)
+    Coin::try_from(coin).map_err(|_| BoxFault::BadCoin(id))
 }

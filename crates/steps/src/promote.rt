@@ -1,98 +1,51 @@
-ghost use Rattle.std.specs.Prelude.{◌<◌, length};
+ghost use Rattle.std.specs.Prelude.{◌≡◌, ◌<◌};
 ghost use Rattle.layout.specs.Refusals.{told};
-ghost use Rattle.steps.specs.Promote.{strike_self_step, promote_pawn_step, reset_pawns_step, open_gate_step, mark_promoted_step};
-ghost use Rattle.steps.specs.Outcomes.{Does, Room};
+ghost use Rattle.steps.specs.Promote.{promote_pawn_step, open_gate_step, mark_promoted_step};
+ghost use Rattle.steps.specs.Outcomes.{Does};
 
-use crate::cells::{Cell, read, swap, write};
-use crate::codes::{Mark, pair};
-use crate::pawns::{PawnSet, write_pawns};
+use crate::codes::Taken;
+use crate::gate::Gate;
 use crate::wins::closing_place;
-use layout::{BoxFault, Meeting};
+use layout::BoxFault;
 use seats::{Place, Seat};
 use store::Store;
 
-// Place 64: strikes itself out of the pawns.
-pub(crate) fn strike_self<S: Store>(
-    store: &mut S,
-    seat: &mut Seat,
-    at: Meeting,
-) -> Result<(), BoxFault>
-    requires room { Room at (length (S.words store.old)) }
-    ensures { Does (strike_self_step at seat.old (S.words store.old)) (told result) (S.words store.new) seat.new }
-{
-    let pawns = PawnSet(read(store, at, Cell::Pawns)?);
-    let mut others = pawns;
-    others.remove(at.way);
-    write_pawns(store, at, pawns, others)?;
-    seat.place = Place::PromotePawn;
-    Ok(())
-}
-
-// Place 65: promotes the first pawn, if one waits.
-pub(crate) fn promote_pawn<S: Store>(
-    store: &mut S,
-    seat: &mut Seat,
-    at: Meeting,
-) -> Result<(), BoxFault>
-    requires room { Room at (length (S.words store.old)) }
-    ensures { Does (promote_pawn_step at seat.old (S.words store.old)) (told result) (S.words store.new) seat.new }
-{
-    let pawns = PawnSet(read(store, at, Cell::Pawns)?);
-    let mut after = pawns;
-    let promoted = after.promote(at.ways);
-    write_pawns(store, at, pawns, after)?;
-    if let Some((way, number)) = promoted {
-        seat.kept_way = way;
-        seat.kept_number = number;
-        seat.place = Place::MarkPromoted;
-    } else {
-        seat.place = Place::ResetPawns;
+impl<S: Store> Gate<'_, S> {
+    // Place 65: promotes the first pawn, if one waits.
+    pub(crate) fn promote_pawn(&mut self, seat: &mut Seat) -> Result<(), BoxFault>
+        ensures store { self.new.store.ghost_name ≡ self.old.store.ghost_name }
+        ensures does { Does (promote_pawn_step self.old.at seat.old (S.words self.old.store.now)) (told result) (S.words self.new.store.now) seat.new }
+    {
+        let ways = self.at.ways;
+        let promoted = self.change_pawns(|pawns| pawns.promote(ways))?;
+        if let Some((way, number)) = promoted {
+            seat.kept_way = way;
+            seat.kept_number = number;
+            seat.place = Place::MarkPromoted;
+        } else {
+            seat.place = Place::ResetPawns;
+        }
+        Ok(())
     }
-    Ok(())
-}
 
-// Place 67: empties the pawn word.
-pub(crate) fn reset_pawns<S: Store>(
-    store: &mut S,
-    seat: &mut Seat,
-    at: Meeting,
-) -> Result<(), BoxFault>
-    requires room { Room at (length (S.words store.old)) }
-    ensures { Does (reset_pawns_step at seat.old (S.words store.old)) (told result) (S.words store.new) seat.new }
-{
-    write(store, at, Cell::Pawns, 0)?;
-    seat.place = Place::OpenGate;
-    Ok(())
-}
+    // Place 68: opens the gate.
+    pub(crate) fn open_gate(&mut self, seat: &mut Seat) -> Result<(), BoxFault>
+        ensures store { self.new.store.ghost_name ≡ self.old.store.ghost_name }
+        ensures does { Does (open_gate_step self.old.at seat.old (S.words self.old.store.now)) (told result) (S.words self.new.store.now) seat.new }
+    {
+        self.swap_count(Taken::ByBoth, Taken::ByNobody)?;
+        seat.place = closing_place(seat);
+        Ok(())
+    }
 
-// Place 68: opens the gate.
-pub(crate) fn open_gate<S: Store>(
-    store: &mut S,
-    seat: &mut Seat,
-    at: Meeting,
-) -> Result<(), BoxFault>
-    requires room { Room at (length (S.words store.old)) }
-    ensures { Does (open_gate_step at seat.old (S.words store.old)) (told result) (S.words store.new) seat.new }
-{
-    swap(store, at, Cell::Count, 2, 0)?;
-    seat.place = closing_place(seat);
-    Ok(())
-}
-
-// Place 70: tells the promoted pawn, if that passage still waits there.
-pub(crate) fn mark_promoted<S: Store>(
-    store: &mut S,
-    seat: &mut Seat,
-    at: Meeting,
-) -> Result<(), BoxFault>
-    requires room { Room at (length (S.words store.old)) }
-    requires kept { seat.old.kept_way.0 < at.ways }
-    ensures { Does (mark_promoted_step at seat.old (S.words store.old)) (told result) (S.words store.new) seat.new }
-{
-    let number = seat.kept_number;
-    let cell = Cell::Apply(seat.kept_way);
-    let waits = pair(number, Mark::Reg);
-    swap(store, at, cell, waits, pair(number, Mark::Pro))?;
-    seat.place = closing_place(seat);
-    Ok(())
+    // Place 70: tells the promoted pawn, if that passage still waits there.
+    pub(crate) fn mark_promoted(&mut self, seat: &mut Seat) -> Result<(), BoxFault>
+        requires kept { seat.old.kept_way.0 < self.old.at.ways }
+        ensures store { self.new.store.ghost_name ≡ self.old.store.ghost_name }
+        ensures does { Does (mark_promoted_step self.old.at seat.old (S.words self.old.store.now)) (told result) (S.words self.new.store.now) seat.new }
+    {
+        self.promote_pair(seat.kept_way, seat.kept_number)?;
+        seat.place = closing_place(seat);
+        Ok(())
+    }
 }

@@ -1,54 +1,53 @@
-ghost use Rattle.std.specs.Prelude.{length};
+ghost use Rattle.std.specs.Prelude.{◌≡◌};
 ghost use Rattle.layout.specs.Refusals.{told};
-ghost use Rattle.steps.specs.Outcomes.{Does, Ready, Room};
+ghost use Rattle.steps.specs.Outcomes.{Does, Ready};
 ghost use Rattle.steps.specs.Polls.{step_of};
 
+use crate::cells::Cell;
 use crate::codes::Coin;
-use crate::{abort, climb, collect, help_release, promote, release};
-use layout::{BoxFault, Meeting};
+use crate::gate::Gate;
+use layout::BoxFault;
 use seats::{Place, Seat};
 use store::Store;
 
-// The step of the seat's place.
-pub(crate) fn step<S: Store>(
-    store: &mut S,
-    seat: &mut Seat,
-    at: Meeting,
-    coin: Coin,
-) -> Result<(), BoxFault>
-    requires room { Room at (length (S.words store.old)) }
-    requires ready { Ready at.ways seat.old }
-    ensures { Does (step_of seat.old.place coin at seat.old (S.words store.old)) (told result) (S.words store.new) seat.new }
-{
-    match seat.place {
-        Place::Rest => Ok(()),
-        Place::ClaimApply => climb::claim_apply(store, seat, at),
-        Place::RaceForRole => climb::race_for_role(store, seat, at, coin),
-        Place::AwaitPromotion => climb::await_promotion(store, seat, at),
-        Place::RecheckCount => climb::recheck_count(store, seat, at),
-        Place::AwaitKing => climb::await_king(store, seat, at),
-        Place::MarkApply => climb::mark_apply(store, seat, at),
-        Place::CloseApply => abort::close_apply(store, seat, at),
-        Place::AbortPawn => abort::abort_pawn(store, seat, at),
-        Place::AbortQueen => abort::abort_queen(store, seat, at),
-        Place::AcceptGate => abort::accept_gate(store, seat, at),
-        Place::WithdrawApply => abort::withdraw_apply(store, seat, at),
-        Place::ReadRole => release::read_role(store, seat, at),
-        Place::OpenAlone => release::open_alone(store, seat, at),
-        Place::HandOver => release::hand_over(store, seat, at),
-        Place::ReadApply => release::read_apply(store, seat, at),
-        Place::ClearApply => release::clear_apply(store, seat, at),
-        Place::ScanApply => collect::scan_apply(store, seat, at),
-        Place::CollectPawns => collect::collect_pawns(store, seat, at),
-        Place::RaceToClose => help_release::race_to_close(store, seat, at),
-        Place::ClearSyncOne => help_release::clear_sync_one(store, seat, at),
-        Place::ReadSyncTwo => help_release::read_sync_two(store, seat, at),
-        Place::ClearSyncTwo => help_release::clear_sync_two(store, seat, at),
-        Place::StrikeOut => help_release::strike_out(store, seat, at),
-        Place::StrikeSelf => promote::strike_self(store, seat, at),
-        Place::PromotePawn => promote::promote_pawn(store, seat, at),
-        Place::ResetPawns => promote::reset_pawns(store, seat, at),
-        Place::OpenGate => promote::open_gate(store, seat, at),
-        Place::MarkPromoted => promote::mark_promoted(store, seat, at),
+impl<S: Store> Gate<'_, S> {
+    // The step of the seat's place.
+    // A `match`: the place is a variant in the seat's record, and a table of closures would list the places once more.
+    pub(crate) fn step(&mut self, seat: &mut Seat, coin: Coin) -> Result<(), BoxFault>
+        requires { Ready self.old.at.ways seat.old }
+        ensures store { self.new.store.ghost_name ≡ self.old.store.ghost_name }
+        ensures does { Does (step_of seat.old.place coin self.old.at seat.old (S.words self.old.store.now)) (told result) (S.words self.new.store.now) seat.new }
+    {
+        match seat.place {
+            Place::Rest => Ok(()),
+            Place::ClaimApply => self.claim_apply(seat),
+            Place::RaceForRole => self.race_for_role(seat, coin),
+            Place::AwaitPromotion => self.await_promotion(seat),
+            Place::RecheckCount => self.recheck_count(seat),
+            Place::AwaitKing => self.await_king(seat),
+            Place::MarkApply => self.mark_apply(seat),
+            Place::CloseApply => self.close_apply(seat),
+            Place::AbortPawn => self.abort_pawn(seat),
+            Place::AbortQueen => self.abort_queen(seat),
+            Place::AcceptGate => self.accept_gate(seat),
+            Place::WithdrawApply => self.withdraw_apply(seat),
+            Place::ReadRole => self.read_role(seat),
+            Place::OpenAlone => self.open_alone(seat),
+            Place::HandOver => self.hand_over(seat),
+            Place::ReadApply => self.read_apply(seat),
+            Place::ClearApply => self.clear_apply(seat),
+            Place::ScanApply => self.scan_apply(seat),
+            Place::CollectPawns => self.collect_pawns(seat),
+            Place::RaceToClose => self.race_to_close(seat),
+            Place::ClearSyncOne => self.clear(Cell::SyncOne, seat, Place::ReadSyncTwo),
+            Place::ReadSyncTwo => self.read_sync_two(seat),
+            Place::ClearSyncTwo => self.clear(Cell::SyncTwo, seat, Place::StrikeOut),
+            Place::StrikeOut => self.strike(seat.kept_way, seat, Place::StrikeSelf),
+            Place::StrikeSelf => self.strike(self.at.way, seat, Place::PromotePawn),
+            Place::PromotePawn => self.promote_pawn(seat),
+            Place::ResetPawns => self.clear(Cell::Pawns, seat, Place::OpenGate),
+            Place::OpenGate => self.open_gate(seat),
+            Place::MarkPromoted => self.mark_promoted(seat),
+        }
     }
 }

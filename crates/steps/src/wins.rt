@@ -1,38 +1,53 @@
-ghost use Rattle.std.specs.Prelude.{◌≡◌, ◌≤◌, true, false, MatchOption};
+ghost use Rattle.std.specs.Prelude.{◌≡◌, ◌≤◌, true, false, MatchResult};
 ghost use Rattle.layout.specs.Gates.{heights_of};
-ghost use Rattle.layout.specs.Refusals.{refusal_of, unfit as unfit_word};
+ghost use Rattle.layout.specs.Refusals.{refusal_of, unfit};
 ghost use Rattle.seats.specs.Places.{within};
+ghost use Rattle.steps.specs.declared.cells.Cell.TheVariants.{SyncOne};
 ghost use Rattle.steps.specs.Codes.{cell_at};
 ghost use Rattle.steps.specs.Outcomes.{captured, closes};
 
-use crate::cells::{Cell, position};
-use layout::{BoxFault, Meeting};
+use crate::cells::Cell;
+use crate::gate::Gate;
+use layout::BoxFault;
 use seats::{Place, Seat, State};
+use store::Store;
 
-// The seat that has won the gates up to its aim.
-pub(crate) fn capture(seat: Seat, at: Meeting) -> Seat
-    requires { seat.aim ≤ heights_of at.ways }
-    ensures { result ≡ captured at seat }
-{
-    let top = seat.aim;
-    if top == at.ways.saturating_sub(1) {
-        return Seat {
-            state: State::Holding,
-            place: Place::Rest,
-            height: top,
+impl<S: Store> Gate<'_, S> {
+    // The seat that has won the gates up to its aim.
+    pub(crate) fn capture(&self, seat: Seat) -> Seat
+        requires { seat.aim ≤ heights_of self.now.at.ways }
+        ensures { result ≡ captured self.now.at seat }
+    {
+        let top = seat.aim;
+        if top == self.heights() {
+            return Seat {
+                state: State::Holding,
+                place: Place::Rest,
+                height: top,
+                top,
+                ..seat
+            };
+        }
+        if seat.gave_up {
+            return Seat { top, ..seat }.backs_out();
+        }
+        Seat {
+            state: State::Climbing,
+            place: Place::ClaimApply,
+            height: top + 1,
             top,
             ..seat
-        };
+        }
     }
-    if seat.gave_up {
-        return Seat { top, ..seat }.backs_out();
-    }
-    Seat {
-        state: State::Climbing,
-        place: Place::ClaimApply,
-        height: top + 1,
-        top,
-        ..seat
+
+    // The height up to which a word in Sync1 hands over: one from `low` up.
+    pub(crate) fn handed_height(&self, word: u64, low: u8) -> Result<u8, BoxFault>
+        ensures { MatchResult result (λ x. (x ≡ word) × (within low (heights_of self.now.at.ways) word ≡ true)) (λ e. (refusal_of e ≡ unfit self.now.at.seat.0 self.now.at.height (cell_at self.now.at SyncOne)) × (within low (heights_of self.now.at.ways) word ≡ false)) }
+    {
+        match u8::try_from(word) {
+            Ok(height) if (low..=self.heights()).contains(&height) => Ok(height),
+            _ => Err(self.unfit(Cell::SyncOne)),
+        }
     }
 }
 
@@ -43,27 +58,5 @@ pub(crate) fn closing_place(seat: &Seat) -> Place
     match seat.state {
         State::Away | State::Climbing => Place::WithdrawApply,
         State::Holding | State::Leaving => Place::ReadApply,
-    }
-}
-
-// The height up to which a word in Sync1 hands over, if it is one from `height` up.
-pub(crate) fn handed_height(word: u64, height: u8, at: Meeting) -> Option<u8>
-    ensures { MatchOption result (within height (heights_of at.ways) word ≡ false) (λ x. (x ≡ word) × (within height (heights_of at.ways) word ≡ true)) }
-{
-    if word < u64::from(height) || word > u64::from(at.ways.saturating_sub(1)) {
-        return None;
-    }
-    Some(word as u8)
-}
-
-// The fault of an unfit word in a cell.
-pub(crate) fn unfit(at: Meeting, cell: Cell) -> BoxFault
-    requires { cell_at at cell ≤ 252 }
-    ensures { refusal_of result ≡ unfit_word at.seat.0 at.height (cell_at at cell) }
-{
-    BoxFault::Unfit {
-        seat: at.seat,
-        height: at.height,
-        cell: position(at, cell) as u16,
     }
 }
