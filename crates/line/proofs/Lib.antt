@@ -6,4 +6,5 @@ pub mod StreamLaws
 pub mod CourseLaws
 pub mod CutLaws
 pub mod PauseLaws
+pub mod LoopLaws
 pub mod SessionFacts

@@ -55,12 +55,12 @@ awaits_end e rest h =
 
 module _ (e : Bool) (bs : List ℕ) (t : Turn) (h : t.written ≤ length t.memory) where
   -- a turn goes on with fewer bytes, or stops for its reason
-  abbrev Reason : Option Pause → Turn → Type 0
+  abbrev pub Reason : Option Pause → Turn → Type 0
   Reason None u = length (drop u.place bs) < length (drop t.place bs)
   Reason (Some p) u = left_by p e (drop u.place bs) (drop u.written u.memory)
 
   -- its place goes no way back, and it stops for want of room only where there is none
-  abbrev Goes : Turn → Type 0
+  abbrev pub Goes : Turn → Type 0
   Goes u =
       Reason u.pause u
       × (t.place ≤ length bs → u.place ≤ length bs)
@@ -101,7 +101,7 @@ module _ (e : Bool) (bs : List ℕ) (t : Turn) (h : t.written ≤ length t.memor
       (awaits_open e (drop t.place bs) z, λ i. i, omega arith, λ i. let z : ◌≡◌ {A = ℕ} 0 1 = cc in absurd (omega arith))
   by_waiting false z = by_room (ltb (length (drop t.written t.memory)) 86) refl (answer_at bs t) refl
 
-  turn_goes : Goes (turned e bs t)
+  pub turn_goes : Goes (turned e bs t)
   unfolding turned
   turn_goes = by_waiting (not e && waits_for (drop t.place bs)) refl
 

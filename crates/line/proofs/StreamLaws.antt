@@ -1,10 +1,8 @@
 -- Turns of a session from its answers. Assumes nothing.
 --     turns_awaiting  a turn that waits for input
---     turns_answered  a turn that answers
---     within-part     what a turn has written lies in the reply memory
---     begins, ends    the first turn of a loop, and the end of its turns
---     stops, goes_on_lem  a loop that stops with a turn, or goes on after it
-use Rattle.std.proofs.Common.{◌≡◌, ℕ, suc, ◌+◌, ◌-◌, ◌<◌, ◌≤◌, Bool, true, false, cond, not, ◌&&◌, ltb, List, [], ◌++◌, length, take, drop, Some, None, Ok, Err, Option, Result, sym, refl, ap, ◌∙◌, subst, arith}
+--     answered_turn   a turn that answers, and what it has written lies in the reply memory
+--     same_turn       what a function did is the turn
+use Rattle.std.proofs.Common.{◌≡◌, ℕ, ◌+◌, ◌-◌, ◌≤◌, Bool, true, false, cond, not, ◌&&◌, ltb, List, [], ◌++◌, length, take, drop, Some, None, Ok, Err, Option, Result, refl, ap, ◌∙◌, subst, arith}
 use borrow.Rule.Slice.PartMut.{put_mid}
 use Rattle.std.proofs.lemmas.List.{append-nil, drop_all, length-append, length-drop, length-take-le, take_rest}
 use Rattle.lock.specs.States.{BoxState}
@@ -17,7 +15,7 @@ use Rattle.line.specs.declared.stream.Pause.TheVariants.{Input}
 use Rattle.line.specs.Messages.{Request}
 use Rattle.line.specs.Reader.{next_of, place_of}
 use Rattle.line.specs.Sessions.{Answering, Answers, answered, answered_to, reply_to, refusal_to}
-use Rattle.line.specs.Streams.{Turn, Turns, answer_at, awaiting, goes_on, pause_by, streamed, turn_of, turned, turned_by, waits_for, written_by}
+use Rattle.line.specs.Streams.{Turn, Turns, answer_at, awaiting, pause_by, turn_of, turned, turned_by, waits_for, written_by}
 
 -- the rest of a memory that a part is put back into is that part
 part_back : (out mem : List ℕ) (w : ℕ) → put_mid w (length out - w) out mem ≡ take w out ++ mem
@@ -34,7 +32,7 @@ module _ (e : Bool) (bs : List ℕ) (w : ℕ) (b : BoxState) (at : ℕ) (out : L
       subst (λ (o : Turn). Turns o (Some Input) w b at out) k
       (record { pause = refl; written = refl; ways = refl; next = refl; seats = refl; cells = refl; place = refl; memory = refl })
 
-  pub turns_answered : (r s : Result Answered LineFault) (b' : BoxState) (at' : ℕ) (mem : List ℕ) → false ≡ (not e && waits_for (drop at bs)) → r ≡ (answered b at bs (take (length out - w) (drop w out))).answer → Answers (answered b at bs (take (length out - w) (drop w out))) s b' at' mem → Turns (turned e bs (turn_of w b at out)) (pause_by r) (written_by r w) b' at' (put_mid w (length out - w) out mem)
+  turns_answered : (r s : Result Answered LineFault) (b' : BoxState) (at' : ℕ) (mem : List ℕ) → false ≡ (not e && waits_for (drop at bs)) → r ≡ (answered b at bs (take (length out - w) (drop w out))).answer → Answers (answered b at bs (take (length out - w) (drop w out))) s b' at' mem → Turns (turned e bs (turn_of w b at out)) (pause_by r) (written_by r w) b' at' (put_mid w (length out - w) out mem)
   unfolding turned
   turns_answered r s b' at' mem h k a =
       let t : Turn = turn_of w b at out in
@@ -67,13 +65,18 @@ within-memory b at w bs out mem r s b' at' e a =
     let k = ap length a.memory in
     omega arith
 
-pub within-part : (b : BoxState) (at w : ℕ) (bs out mem : List ℕ) (r s : Result Answered LineFault) (b' : BoxState) (at' : ℕ) → w ≤ length out → r ≡ (answered b at bs (take (length out - w) (drop w out))).answer → Answers (answered b at bs (take (length out - w) (drop w out))) s b' at' mem → written_by r w ≤ length (put_mid w (length out - w) out mem)
+within-part : (b : BoxState) (at w : ℕ) (bs out mem : List ℕ) (r s : Result Answered LineFault) (b' : BoxState) (at' : ℕ) → w ≤ length out → r ≡ (answered b at bs (take (length out - w) (drop w out))).answer → Answers (answered b at bs (take (length out - w) (drop w out))) s b' at' mem → written_by r w ≤ length (put_mid w (length out - w) out mem)
 within-part b at w bs out mem r s b' at' l e a =
     let h = within-memory b at w bs (take (length out - w) (drop w out)) mem r s b' at' e a in
     let i = ap length (part_back out mem w) in
     let j = length-append (take w out) mem in
     let k = length-take-le w out l in
     omega arith
+
+-- a turn that answers, and lies in the reply memory
+pub answered_turn : (e : Bool) (bs : List ℕ) (w : ℕ) (b : BoxState) (at : ℕ) (out : List ℕ) (r s : Result Answered LineFault) (b' : BoxState) (at' : ℕ) (mem : List ℕ) → w ≤ length out → false ≡ (not e && waits_for (drop at bs)) → r ≡ (answered b at bs (take (length out - w) (drop w out))).answer → Answers (answered b at bs (take (length out - w) (drop w out))) s b' at' mem → Turns (turned e bs (turn_of w b at out)) (pause_by r) (written_by r w) b' at' (put_mid w (length out - w) out mem) × (written_by r w ≤ length (put_mid w (length out - w) out mem))
+answered_turn e bs w b at out r s b' at' mem l h k a =
+    (turns_answered e bs w b at out r s b' at' mem h k a, within-part b at w bs out mem r s b' at' l k a)
 
 same_box : (b c : BoxState) → b.ways ≡ c.ways → b.next ≡ c.next → b.seats ≡ c.seats → b.cells ≡ c.cells → b ≡ c
 same_box b c p q r s =
@@ -92,30 +95,3 @@ same_turn o p w b at out s =
     let A : ℕ → Turn = λ x. record { pause = o.pause; written = o.written; box = o.box; place = x; memory = out } in
     let M : List ℕ → Turn = λ x. record { pause = o.pause; written = o.written; box = o.box; place = o.place; memory = x } in
     ap P s.pause ∙ (ap W s.written ∙ (ap B k ∙ (ap A s.place ∙ ap M s.memory)))
-
-pub begins : (n : ℕ) (e : Bool) (bs : List ℕ) (t : Turn) → streamed (n - 0) e bs t ≡ streamed n e bs t
-begins n e bs t = let z : n - 0 ≡ n = omega arith in ap (λ x. streamed x e bs t) z
-
--- a turn of a loop that began with t₀ and has come to t, with i turns done of one more than the input has bytes
-module _ (i : ℕ) (e : Bool) (bs : List ℕ) (t t₀ : Turn) (inv : streamed (suc (length bs) - i) e bs t ≡ streamed (suc (length bs)) e bs t₀) where
-  pub ends : suc (length bs) ≤ i → Turns (streamed (suc (length bs)) e bs t₀) (Some Input) t.written t.box t.place t.memory
-  ends h =
-      let z : 0 ≡ suc (length bs) - i = omega arith in
-      subst (λ (o : Turn). Turns o (Some Input) t.written t.box t.place t.memory) (ap (λ n. streamed n e bs t) z ∙ inv)
-      (record { pause = refl; written = refl; ways = refl; next = refl; seats = refl; cells = refl; place = refl; memory = refl })
-
-  module _ (h : i < length bs + 1) (q : Option Pause) (w : ℕ) (b : BoxState) (at : ℕ) (out : List ℕ) (s : Turns (turned e bs t) q w b at out) where
-    more : streamed (suc (suc (length bs) - (i + 1))) e bs t ≡ streamed (suc (length bs)) e bs t₀
-    more = let z : suc (suc (length bs) - (i + 1)) ≡ suc (length bs) - i = omega arith in ap (λ n. streamed n e bs t) z ∙ inv
-
-    pub stops : (p : Pause) → q ≡ Some p → Turns (streamed (suc (length bs)) e bs t₀) (Some p) w b at out
-    stops p k =
-        let j = ap (λ x. goes_on x (turned e bs t) (streamed (suc (length bs) - (i + 1)) e bs)) (sym k ∙ s.pause) in
-        subst (λ (o : Turn). Turns o (Some p) w b at out) (j ∙ more) (subst (λ (x : Option Pause). Turns (turned e bs t) x w b at out) k s)
-
-    pub goes_on_lem : q ≡ None → streamed (suc (length bs) - (i + 1)) e bs (turn_of w b at out) ≡ streamed (suc (length bs)) e bs t₀
-    goes_on_lem k =
-        let n : ℕ = suc (length bs) - (i + 1) in
-        let j = subst (λ (x : Option Pause). Turns (turned e bs t) x w b at out) k s in
-        ap (streamed n e bs) (same_turn (turned e bs t) None w b at out j)
-        ∙ (ap (λ x. goes_on x (turned e bs t) (streamed n e bs)) j.pause ∙ more)

@@ -1,11 +1,13 @@
 -- The reader: what it finds in the bytes that are left, and its place afterwards. Assumes nothing.
 --     size_in rest      the length that a header says
 --     header_of rest    the length of the body: the version is 1 (31), the length lawful, and all bytes are there (32)
+--     size_found r      that length, by what was found of the body; missing r says that bytes of the body are missing
 --     next_of rest      what the next message asks, or that there is none; next_at is the same, open
 --     place_of at rest  the place after it; place_at is the same, open
 --     request_next r    what a message that was read asks
 --     ShortNext r       the text of a message that has one is at most 80 bytes long
-use Rattle.std.specs.Prelude.{ℕ, ◌+◌, ◌-◌, ◌*◌, ◌≤◌, cond, not, ◌||◌, List, length, take, drop, Some, None, Ok, Err, Option, Result, ◌==◌, nat_lt, slice_index}
+use Rattle.std.specs.Prelude.{ℕ, ◌+◌, ◌-◌, ◌*◌, ◌≤◌, Bool, true, false, cond, not, ◌||◌, List, length, take, drop, Some, None, Ok, Err, Option, Result, ◌==◌, nat_lt, slice_index}
+use Rattle.std.specs.Borrow.{Bor}
 use Rattle.line.specs.declared.messages.Message.{Message}
 use Rattle.line.specs.declared.fault.LineFault.{LineFault}
 use Rattle.line.specs.declared.fault.LineFault.TheVariants.{Version, Frame}
@@ -21,6 +23,17 @@ header_of rest =
     (cond (nat_lt (length rest) 3) (Err Frame)
     (cond (nat_lt (size_in rest) 1 || (nat_lt 84 (size_in rest) || nat_lt (length rest - 3) (size_in rest))) (Err Frame)
     (Ok (size_in rest))))
+
+-- the same, by what was found of the body that a header announces: it is whole, or bytes of it are missing
+abbrev pub size_found : Result (Option (Bor (List ℕ))) LineFault → Result ℕ LineFault
+size_found (Ok (Some body)) = Ok (length body.now)
+size_found (Ok None) = Err Frame
+size_found (Err e) = Err e
+
+abbrev pub missing : Result (Option (Bor (List ℕ))) LineFault → Bool
+missing (Ok (Some body)) = false
+missing (Ok None) = true
+missing (Err e) = false
 
 abbrev pub read_body : Result Request LineFault → Result (Option Request) LineFault
 read_body (Ok q) = Ok (Some q)
