@@ -1,6 +1,4 @@
 -- The answer to a message from those of its parts. Assumes nothing.
---     responds         a served request and its written reply are the response
---     answers_room     too little reply memory
 --     answers-end      the end of the input
 --     answers-replied  a message that was read
 --     answers-over     one that could not be read
@@ -20,24 +18,7 @@ use Rattle.line.specs.Serving.{Serves, reply_in, served}
 use Rattle.line.specs.Sessions.{Answering, Answers, Responds, answered, answered_to, reply_to, refusal_to}
 use Rattle.line.proofs.ReplyLaws.{onto_front, reply_fits}
 
-pub responds : (q : Request) (k n : ℕ) (o : CallOutcome (List ℕ)) (r : Result Reply LineFault) (b : BoxState) (out out' : List ℕ) → k ≡ kind_of q → Serves q o r b → Written (reply_in k r) out n out' → Responds q o out n b out'
-responds q k n o r b out out' e s w =
-    let P : List ℕ → Type 0 = λ x. Written x out n out' in
-    record {
-      written = subst P (ap (λ x. reply_in x r) e ∙ s.reply) w;
-      short = rw w.size (reply_fits k r s.short);
-      ways = s.ways;
-      next = s.next;
-      seats = s.seats;
-      cells = s.cells;
-    }
-
 module _ (b : BoxState) (at : ℕ) (bs out : List ℕ) where
-  pub answers_room : length out < 86 → Answers (answered b at bs out) (Err ReplyRoom) b at out
-  unfolding answered
-  answers_room h =
-      rw (lt-ltb (length out) 86 h) (record { answer = refl; ways = refl; next = refl; seats = refl; cells = refl; place = refl; memory = refl })
-
   module _ (h : 86 ≤ length out) (at' : ℕ) (p : at' ≡ place_of at (drop at bs)) where
     by-found : (x : Result (Option Request) LineFault) → x ≡ next_of (drop at bs) → answered_to x b at' out ≡ answered b at bs out
     unfolding answered

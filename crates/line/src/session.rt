@@ -25,6 +25,7 @@ pub enum Answered {
 }
 
 // Reads the next message, has the box serve it, and writes the reply at the front of the reply memory.
+#[tactic(auto, unfolding(crate::specs::Sessions::answered))]
 pub fn answer<S: Store>(
     gate: &mut BoxRecord,
     store: &mut S,
@@ -52,6 +53,7 @@ pub fn answer<S: Store>(
 }
 
 // Has the box serve a message, and writes the reply. Answers how many bytes it has.
+#[tactic(auto, using(crate::proofs::ReplyLaws::reply_fits))]
 fn respond<S: Store>(
     gate: &mut BoxRecord,
     store: &mut S,

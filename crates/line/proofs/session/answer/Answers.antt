@@ -1,10 +1,7 @@
 use Rattle.std.proofs.Common.{rules}
 use Rattle.line.specs.Messages.{request_of}
-use Rattle.line.proofs.SessionLaws.{answers_room, answers-end, answers-replied, answers-over}
+use Rattle.line.proofs.SessionLaws.{answers-end, answers-replied, answers-over}
 use Rattle.line.proofs.session.answer.Goals as goal
-
-pub returns-in_default : goal.returns-in_default
-returns-in_default g c = answers_room _ _ c.args.input.now _ c.in_default.ensures.cases
 
 pub returns-in-Ok-None : goal.returns-in-Ok-None
 returns-in-Ok-None g c =
