@@ -103,10 +103,10 @@ next_more rest xs h =
     ∙ sym (ap (λ t. cond t (Ok None) (after_header rest (header_of rest))) z)))
 
 fits_by : (rest : List ℕ) (q : Request) (z : Bool) (y : Result ℕ LineFault) → header_of rest ≡ y → cond z (Ok None) (after_header rest y) ≡ Ok (Some q) → 3 + size_in rest ≤ length rest
-fits_by rest q true y e k = let z : ◌≡◌ {A = ℕ} 0 1 = cc in omega arith
+fits_by rest q true y e k = cc
 fits_by rest q false (Ok n) e k =
     let f = header_fits (get_or rest 0 0) (length rest) (size_in rest) n e in omega (arith, f.0, f.1)
-fits_by rest q false (Err f) e k = let z : ◌≡◌ {A = ℕ} 0 1 = cc in omega arith
+fits_by rest q false (Err f) e k = cc
 
 pub next_fits : (rest : List ℕ) (q : Request) → next_of rest ≡ Ok (Some q) → 3 + size_in rest ≤ length rest
 unfolding next_of

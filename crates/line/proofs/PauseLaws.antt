@@ -24,12 +24,12 @@ none_waits : (v l s : ℕ) → l ≡ 0 → waits_by v l s ≡ true
 none_waits v l s h = grind (arith, nat_tests)
 
 body_some : (x : Result Request LineFault) → read_body x ≡ Ok None → ⊥
-body_some (Ok q) k = let z : ◌≡◌ {A = ℕ} 0 1 = cc in omega arith
-body_some (Err f) k = let z : ◌≡◌ {A = ℕ} 0 1 = cc in omega arith
+body_some (Ok q) k = cc
+body_some (Err f) k = cc
 
 after_some : (rest : List ℕ) (y : Result ℕ LineFault) → after_header rest y ≡ Ok None → ⊥
 after_some rest (Ok n) k = body_some (message_of (take n (drop 3 rest))) k
-after_some rest (Err f) k = let z : ◌≡◌ {A = ℕ} 0 1 = cc in omega arith
+after_some rest (Err f) k = cc
 
 end_by : (rest : List ℕ) (z : Bool) → eqb (length rest) 0 ≡ z → cond z (Ok None) (after_header rest (header_of rest)) ≡ Ok None → length rest ≡ 0
 end_by rest true e k = grind (arith, nat_tests)
@@ -41,11 +41,11 @@ unfolding next_of
 end_empty rest k = end_by rest (eqb (length rest) 0) refl k
 
 awaits_open : (e : Bool) (rest : List ℕ) → (not e && waits_for rest) ≡ true → Awaits e rest
-awaits_open true rest h = let z : ◌≡◌ {A = ℕ} 0 1 = cc in absurd (omega arith)
+awaits_open true rest h = cc
 awaits_open false rest h =
     record {
       waiting = λ _. h;
-      spent = λ k. let z : ◌≡◌ {A = ℕ} 0 1 = cc in absurd (omega arith);
+      spent = λ k. cc;
       few = few_wait (get_or rest 0 0) (length rest) (size_in rest) h;
     }
 
@@ -75,16 +75,16 @@ module _ (e : Bool) (bs : List ℕ) (t : Turn) (h : t.written ≤ length t.memor
   found (Ok None) k =
       let p : place_of t.place (drop t.place bs) ≡ t.place = place_by_lem t.place (drop t.place bs) ∙ ap (place_by t.place (drop t.place bs)) k in
       let l : length (drop (place_of t.place (drop t.place bs)) bs) ≡ 0 = ap (λ n. length (drop n bs)) p ∙ end_empty (drop t.place bs) k in
-      (awaits_end e (drop (place_of t.place (drop t.place bs)) bs) l, λ i. omega (arith, p), omega (arith, p), λ i. let z : ◌≡◌ {A = ℕ} 0 1 = cc in absurd (omega arith))
+      (awaits_end e (drop (place_of t.place (drop t.place bs)) bs) l, λ i. omega (arith, p), omega (arith, p), λ i. cc)
   found (Ok (Some q)) k =
       let p : place_of t.place (drop t.place bs) ≡ t.place + 3 + size_in (drop t.place bs) = place_by_lem t.place (drop t.place bs) ∙ ap (place_by t.place (drop t.place bs)) k in
       let f = next_fits (drop t.place bs) q k in
       let l = length-drop t.place bs in
       let m = length-drop (place_of t.place (drop t.place bs)) bs in
-      (omega arith, λ i. omega arith, omega arith, λ i. let z : ◌≡◌ {A = ℕ} 0 1 = cc in absurd (omega arith))
+      (omega arith, λ i. omega arith, omega arith, λ i. cc)
   found (Err x) k =
       let p : place_of t.place (drop t.place bs) ≡ t.place = place_by_lem t.place (drop t.place bs) ∙ ap (place_by t.place (drop t.place bs)) k in
-      (tt, λ i. omega (arith, p), omega (arith, p), λ i. let z : ◌≡◌ {A = ℕ} 0 1 = cc in absurd (omega arith))
+      (tt, λ i. omega (arith, p), omega (arith, p), λ i. cc)
 
   by_room : (z : Bool) → ltb (length (drop t.written t.memory)) 86 ≡ z → (o : Answering) → o ≡ cond z (record { answer = Err ReplyRoom; box = t.box; place = t.place; memory = drop t.written t.memory }) (answered_to (next_of (drop t.place bs)) t.box (place_of t.place (drop t.place bs)) (drop t.written t.memory)) → Goes (turned_by o.answer o t)
   by_room true z o k =
@@ -98,7 +98,7 @@ module _ (e : Bool) (bs : List ℕ) (t : Turn) (h : t.written ≤ length t.memor
   by_waiting : (z : Bool) → (not e && waits_for (drop t.place bs)) ≡ z → Goes (cond z (awaiting t) (turned_by (answer_at bs t).answer (answer_at bs t) t))
   unfolding answered
   by_waiting true z =
-      (awaits_open e (drop t.place bs) z, λ i. i, omega arith, λ i. let z : ◌≡◌ {A = ℕ} 0 1 = cc in absurd (omega arith))
+      (awaits_open e (drop t.place bs) z, λ i. i, omega arith, λ i. cc)
   by_waiting false z = by_room (ltb (length (drop t.written t.memory)) 86) refl (answer_at bs t) refl
 
   pub turn_goes : Goes (turned e bs t)

@@ -20,15 +20,9 @@ use Rattle.line.proofs.ReplyLaws.{onto_front, reply_fits}
 
 module _ (b : BoxState) (at : ℕ) (bs out : List ℕ) where
   module _ (h : 86 ≤ length out) (at' : ℕ) (p : at' ≡ place_of at (drop at bs)) where
-    by-found : (x : Result (Option Request) LineFault) → x ≡ next_of (drop at bs) → answered_to x b at' out ≡ answered b at bs out
-    unfolding answered
-    by-found x e =
-        ap (λ y. answered_to y b at' out) e
-        ∙ (ap (λ y. answered_to (next_of (drop at bs)) b y out) p
-        ∙ sym (ap (λ t. cond t (record { answer = Err ReplyRoom; box = b; place = at; memory = out }) (answered_to (next_of (drop at bs)) b (place_of at (drop at bs)) out)) (le-ltb (length out) 86 h)))
-
     answers_by : (x : Result (Option Request) LineFault) (r : Result Answered LineFault) (b' : BoxState) (out' : List ℕ) → x ≡ next_of (drop at bs) → Answers (answered_to x b at' out) r b' at' out' → Answers (answered b at bs out) r b' at' out'
-    answers_by x r b' out' e a = subst (λ (o : Answering). Answers o r b' at' out') (by-found x e) a
+    unfolding answered
+    answers_by x r b' out' e a = rw (le-ltb (length out) 86 h, ← e, ← p) a
 
     -- the reply is written over the front of the memory
     module _ (room : List ℕ) where
