@@ -1,5 +1,4 @@
 pub mod ReplyLaws
-pub mod ReaderLaws
 pub mod SessionLaws
 pub mod StreamLaws
 pub mod CourseLaws

@@ -1,7 +1,7 @@
 -- The loop over the turns of an input. Assumes nothing.
 --     nearer            a turn that goes on brings the place nearer to the end of the input
---     stops, goes_onward  a loop that stops with a turn, or goes on after it
-use Rattle.std.proofs.Common.{◌≡◌, ℕ, zero, suc, ◌<◌, ◌≤◌, Bool, List, [], length, drop, None, Some, Option, sym, refl, ap, ◌∙◌, subst, arith}
+--     stops, goes_on_lem  a loop that stops with a turn, or goes on after it
+use Rattle.std.proofs.Common.{◌≡◌, ℕ, zero, suc, ◌<◌, ◌≤◌, Bool, List, length, drop, None, Some, Option, sym, refl, ap, ◌∙◌, subst, arith}
 use Rattle.std.proofs.lemmas.List.{length-drop}
 use Rattle.lock.specs.States.{BoxState}
 use Rattle.line.specs.declared.stream.Pause.{Pause}
@@ -24,7 +24,7 @@ module _ (e : Bool) (bs : List ℕ) where
   enough zero t h l = absurd (omega arith)
   enough (suc n) t h l =
       goes_same (turned e bs t).pause (turned e bs t) (streamed (suc n) e bs) (streamed n e bs)
-      (λ k. let m = shortens t h k in enough n (turned e bs t) (still-within bs [] t h e (λ _. refl)) (omega arith))
+      (λ k. let m = shortens t h k in enough n (turned e bs t) (still-within e bs t h) (omega arith))
 
   -- of a loop that began with t₀ and has come to t
   module _ (t t₀ : Turn) (h : t.written ≤ length t.memory) (inv : streamed (suc (length bs)) e bs t ≡ streamed (suc (length bs)) e bs t₀) (w : ℕ) (b : BoxState) (at : ℕ) (out : List ℕ) where
@@ -37,10 +37,10 @@ module _ (e : Bool) (bs : List ℕ) where
       pub nearer : length (drop at bs) < length (drop t.place bs)
       nearer = let m = shortens t h (sym s.pause) in rw s.place m
 
-      pub goes_onward : streamed (suc (length bs)) e bs (turn_of w b at out) ≡ streamed (suc (length bs)) e bs t₀
-      goes_onward =
+      pub goes_on_lem : streamed (suc (length bs)) e bs (turn_of w b at out) ≡ streamed (suc (length bs)) e bs t₀
+      goes_on_lem =
           let m = shortens t h (sym s.pause) in
           let l = length-drop t.place bs in
           ap (streamed (suc (length bs)) e bs) (same_turn (turned e bs t) None w b at out s)
-          ∙ (enough (length bs) (turned e bs t) (still-within bs [] t h e (λ _. refl)) (omega arith)
+          ∙ (enough (length bs) (turned e bs t) (still-within e bs t h) (omega arith)
           ∙ (ap (λ x. goes_on x (turned e bs t) (streamed (length bs) e bs)) s.pause ∙ inv))

@@ -1,21 +1,20 @@
 -- What holds when the turns over an input stop. Assumes nothing.
 --     stops_left  of turns that are as many as the bytes, and one more
-use Rattle.std.proofs.Common.{◌≡◌, ℕ, zero, suc, ◌+◌, ◌<◌, ◌≤◌, Bool, true, false, cond, not, ◌&&◌, eqb, ltb, List, [], ◌++◌, length, get_or, take, drop, Some, None, Ok, Err, Option, Result, sym, refl, ap, ◌∙◌, subst, arith, ltb-true}
+use Rattle.std.proofs.Common.{◌≡◌, ℕ, zero, suc, ◌+◌, ◌<◌, ◌≤◌, Bool, true, false, cond, not, ◌&&◌, eqb, List, length, get_or, take, drop, Some, None, Ok, Err, Option, Result, sym, refl, ap, ◌∙◌, subst, arith}
 use Rattle.std.proofs.lemmas.Bool.Decides.{nat_tests}
 use Rattle.std.proofs.lemmas.List.{length-drop, take-append-drop}
 use Rattle.lock.specs.States.{BoxState}
 use Rattle.line.specs.declared.fault.LineFault.{LineFault}
-use Rattle.line.specs.declared.fault.LineFault.TheVariants.{ReplyRoom}
 use Rattle.line.specs.declared.stream.Pause.{Pause}
 use Rattle.line.specs.declared.stream.Pause.TheVariants.{Room}
 use Rattle.line.specs.Messages.{Request, message_of}
-use Rattle.line.specs.Reader.{after_header, header_of, next_of, place_by, place_of, read_body, size_in}
-use Rattle.line.specs.Sessions.{Answering, answered, answered_to}
-use Rattle.line.specs.Streams.{Turn, Turns, answer_at, awaiting, goes_on, streamed, turn_of, turned, turned_by, waits_for}
+use Rattle.line.specs.Reader.{after_header, header_of, next_of, place_of, read_body, size_in}
+use Rattle.line.specs.Sessions.{answered_to}
+use Rattle.line.specs.Streams.{Turn, Turns, goes_on, streamed, turn_of, turned, turned_by, waits_for}
 use Rattle.line.specs.Pauses.{Awaits, Left, left_by}
-use Rattle.line.proofs.CourseLaws.{next_fits, place_by_lem, waits_by}
+use Rattle.line.proofs.CourseLaws.{next_fits, placed, waits_by}
 use Rattle.line.proofs.CutLaws.{still-within}
-use Rattle.line.proofs.StreamLaws.{same_turn}
+use Rattle.line.proofs.StreamLaws.{answered_cases, same_turn, turned_cases}
 
 few_wait : (v l s : ℕ) → waits_by v l s ≡ true → l ≤ 86
 few_wait v l s h = grind (arith, nat_tests)
@@ -73,37 +72,25 @@ module _ (e : Bool) (bs : List ℕ) (t : Turn) (h : t.written ≤ length t.memor
 
   found : (x : Result (Option Request) LineFault) → next_of (drop t.place bs) ≡ x → Goes (turn_to x)
   found (Ok None) k =
-      let p : place_of t.place (drop t.place bs) ≡ t.place = place_by_lem t.place (drop t.place bs) ∙ ap (place_by t.place (drop t.place bs)) k in
+      let p : place_of t.place (drop t.place bs) ≡ t.place = placed t.place (drop t.place bs) _ k in
       let l : length (drop (place_of t.place (drop t.place bs)) bs) ≡ 0 = ap (λ n. length (drop n bs)) p ∙ end_empty (drop t.place bs) k in
       (awaits_end e (drop (place_of t.place (drop t.place bs)) bs) l, λ i. omega (arith, p), omega (arith, p), λ i. cc)
   found (Ok (Some q)) k =
-      let p : place_of t.place (drop t.place bs) ≡ t.place + 3 + size_in (drop t.place bs) = place_by_lem t.place (drop t.place bs) ∙ ap (place_by t.place (drop t.place bs)) k in
+      let p : place_of t.place (drop t.place bs) ≡ t.place + 3 + size_in (drop t.place bs) = placed t.place (drop t.place bs) _ k in
       let f = next_fits (drop t.place bs) q k in
       let l = length-drop t.place bs in
       let m = length-drop (place_of t.place (drop t.place bs)) bs in
       (omega arith, λ i. omega arith, omega arith, λ i. cc)
   found (Err x) k =
-      let p : place_of t.place (drop t.place bs) ≡ t.place = place_by_lem t.place (drop t.place bs) ∙ ap (place_by t.place (drop t.place bs)) k in
+      let p : place_of t.place (drop t.place bs) ≡ t.place = placed t.place (drop t.place bs) _ k in
       (tt, λ i. omega (arith, p), omega (arith, p), λ i. cc)
 
-  by_room : (z : Bool) → ltb (length (drop t.written t.memory)) 86 ≡ z → (o : Answering) → o ≡ cond z (record { answer = Err ReplyRoom; box = t.box; place = t.place; memory = drop t.written t.memory }) (answered_to (next_of (drop t.place bs)) t.box (place_of t.place (drop t.place bs)) (drop t.written t.memory)) → Goes (turned_by o.answer o t)
-  by_room true z o k =
-      let r : drop t.written (take t.written t.memory ++ drop t.written t.memory) ≡ drop t.written t.memory = ap (drop t.written) (take-append-drop t.written t.memory) in
-      let l = ltb-true (length (drop t.written t.memory)) 86 z in
-      let m = ap length r in
-      subst (λ (x : Answering). Goes (turned_by x.answer x t)) (sym k) (omega arith, λ i. i, omega arith, λ i. l)
-  by_room false z o k =
-      subst (λ (x : Answering). Goes (turned_by x.answer x t)) (sym k) (found (next_of (drop t.place bs)) refl)
-
-  by_waiting : (z : Bool) → (not e && waits_for (drop t.place bs)) ≡ z → Goes (cond z (awaiting t) (turned_by (answer_at bs t).answer (answer_at bs t) t))
-  unfolding answered
-  by_waiting true z =
-      (awaits_open e (drop t.place bs) z, λ i. i, omega arith, λ i. cc)
-  by_waiting false z = by_room (ltb (length (drop t.written t.memory)) 86) refl (answer_at bs t) refl
-
   pub turn_goes : Goes (turned e bs t)
-  unfolding turned
-  turn_goes = by_waiting (not e && waits_for (drop t.place bs)) refl
+  turn_goes =
+      turned_cases e bs t Goes (λ z. (awaits_open e (drop t.place bs) z, λ i. i, omega arith, λ i. cc))
+      (λ z. answered_cases t.box t.place bs (drop t.written t.memory) (λ o. Goes (turned_by o.answer o t))
+      (λ l. let m = ap (λ x. length (drop t.written x)) (take-append-drop t.written t.memory) in (omega arith, λ i. i, omega arith, λ i. l))
+      (found (next_of (drop t.place bs)) refl))
 
 -- what holds at a stop, of a turn after t
 abbrev Stops : Bool → List ℕ → Turn → Turn → Type 0
@@ -129,7 +116,7 @@ module _ (e : Bool) (bs : List ℕ) (t u : Turn) (h : t.written ≤ length t.mem
 turns_stop : (n : ℕ) (e : Bool) (bs : List ℕ) (t : Turn) → t.written ≤ length t.memory → length (drop t.place bs) < n → Stops e bs t (streamed n e bs t)
 turns_stop zero e bs t h l = absurd (omega arith)
 turns_stop (suc n) e bs t h l =
-    let s = still-within bs [] t h e (λ _. refl) in
+    let s = still-within e bs t h in
     onward e bs t (turned e bs t) h n l s (turn_goes e bs t h) (streamed n e bs) (turned e bs t).pause refl
     (λ m. turns_stop n e bs (turned e bs t) s m)
 

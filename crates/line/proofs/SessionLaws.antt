@@ -2,21 +2,19 @@
 --     answers-end      the end of the input
 --     answers-replied  a message that was read
 --     answers-over     one that could not be read
-use Rattle.std.proofs.Common.{◌≡◌, ℕ, ◌<◌, ◌≤◌, cond, List, ◌++◌, length, take, drop, Some, None, Ok, Err, Option, Result, sym, refl, ap, ◌∙◌, subst, arith, le-ltb, lt-ltb}
+use Rattle.std.proofs.Common.{◌≡◌, ℕ, ◌≤◌, List, ◌++◌, length, take, drop, Some, None, Ok, Err, Option, Result, refl, ap, arith, le-ltb}
 use Rattle.std.proofs.lemmas.List.{take-append-drop}
-use Rattle.lock.specs.States.{BoxState, CallOutcome}
+use Rattle.lock.specs.States.{BoxState}
 use Rattle.line.specs.declared.fault.LineFault.{LineFault}
-use Rattle.line.specs.declared.fault.LineFault.TheVariants.{ReplyRoom}
-use Rattle.line.specs.declared.replies.Reply.{Reply}
 use Rattle.line.specs.declared.session.Answered.{Answered}
 use Rattle.line.specs.declared.session.Answered.TheVariants.{End, Replied, Over}
 use Rattle.line.specs.Faults.{told_to}
-use Rattle.line.specs.Messages.{Request, kind_of}
+use Rattle.line.specs.Messages.{Request}
 use Rattle.line.specs.Reader.{next_of, place_of}
 use Rattle.line.specs.Replies.{Written, refused_body}
-use Rattle.line.specs.Serving.{Serves, reply_in, served}
-use Rattle.line.specs.Sessions.{Answering, Answers, Responds, answered, answered_to, reply_to, refusal_to}
-use Rattle.line.proofs.ReplyLaws.{onto_front, reply_fits}
+use Rattle.line.specs.Serving.{served}
+use Rattle.line.specs.Sessions.{Answers, Responds, answered, answered_to, reply_to, refusal_to}
+use Rattle.line.proofs.ReplyLaws.{onto_front}
 
 module _ (b : BoxState) (at : ℕ) (bs out : List ℕ) where
   module _ (h : 86 ≤ length out) (at' : ℕ) (p : at' ≡ place_of at (drop at bs)) where

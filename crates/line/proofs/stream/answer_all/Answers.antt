@@ -1,6 +1,6 @@
 use Rattle.lock.specs.States.{state_of}
 use Rattle.line.proofs.CutLaws.{cuts}
-use Rattle.line.proofs.LoopLaws.{goes_onward, nearer, stops}
+use Rattle.line.proofs.LoopLaws.{goes_on_lem, nearer, stops}
 use Rattle.line.proofs.PauseLaws.{stops_left}
 use Rattle.line.proofs.stream.answer_all.Goals as goal
 
@@ -23,6 +23,6 @@ loop-pause-smaller g c =
 pub loop-pause-preserved : goal.loop-pause-preserved
 loop-pause-preserved g c =
     record {
-      turns = goes_onward _ c.args.input.now _ _ c.loop-pause.invariant.within c.loop-pause.invariant.turns _ _ _ _ c.in_default.ensures.turns;
+      turns = goes_on_lem _ c.args.input.now _ _ c.loop-pause.invariant.within c.loop-pause.invariant.turns _ _ _ _ c.in_default.ensures.turns;
       within = c.advance.ensures.within;
     }
