@@ -13,7 +13,7 @@ use Rattle.lock.specs.States.{BoxState}
 use Rattle.line.specs.declared.fault.LineFault.{LineFault}
 use Rattle.line.specs.declared.fault.LineFault.TheVariants.{Version, Frame}
 use Rattle.line.specs.Messages.{Request, message_of}
-use Rattle.line.specs.Reader.{after_header, header_of, next_at, next_of, place_by, place_of, read_body, size_in}
+use Rattle.line.specs.Reader.{after_header, header_of, next_of, place_by, place_of, read_body, size_in}
 use Rattle.line.specs.Serving.{served}
 use Rattle.line.specs.Sessions.{reply_to}
 use Rattle.line.specs.Streams.{waits_for}
@@ -21,7 +21,7 @@ use Rattle.line.specs.Courses.{Course, behind, course, course_by, course_in}
 
 next_none : (bs : List ℕ) → length bs ≡ 0 → next_of bs ≡ Ok None
 unfolding next_of
-next_none bs h = ap next_at (nil_from_length bs h)
+next_none bs h = rw (nil_from_length bs h) refl
 
 by_same : (x : Result (Option Request) LineFault) (b : BoxState) (f g : BoxState → Course) → ((b' : BoxState) → f b' ≡ g b') → course_by x b f ≡ course_by x b g
 by_same (Ok None) b f g h = refl
@@ -118,7 +118,7 @@ size_kept rest xs q e =
     ap (λ n. drop (3 + n) (rest ++ xs)) (size_more rest xs (omega arith)) ∙ drop-append-le (3 + size_in rest) rest xs f
 
 place_by_lem : (at : ℕ) (rest : List ℕ) → place_of at rest ≡ place_by at rest (next_of rest)
-unfolding place_of next_of
+unfolding place_of
 place_by_lem at rest = refl
 
 pub placed : (at : ℕ) (rest : List ℕ) (x : Result (Option Request) LineFault) → next_of rest ≡ x → place_of at rest ≡ place_by at rest x
