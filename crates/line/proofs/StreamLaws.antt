@@ -7,7 +7,6 @@ use Rattle.std.proofs.lemmas.Bool.{cond_both}
 use borrow.Rule.Slice.PartMut.{put_mid}
 use Rattle.std.proofs.lemmas.List.{append-nil, drop_all, length-append, length-drop, length-take-le, take_rest}
 use Rattle.lock.specs.States.{BoxState}
-use Rattle.seats.specs.declared.seat.Seat.{Seat}
 use Rattle.line.specs.declared.fault.LineFault.{LineFault}
 use Rattle.line.specs.declared.fault.LineFault.TheVariants.{ReplyRoom}
 use Rattle.line.specs.declared.session.Answered.{Answered}
@@ -73,18 +72,9 @@ answered_turn e bs w b at out r s b' at' mem l h k a =
 
 same_box : (b c : BoxState) → b.ways ≡ c.ways → b.next ≡ c.next → b.seats ≡ c.seats → b.cells ≡ c.cells → b ≡ c
 same_box b c p q r s =
-    let P : ℕ → BoxState = λ x. record { ways = x; next = b.next; seats = b.seats; cells = b.cells } in
-    let Q : ℕ → BoxState = λ x. record { ways = c.ways; next = x; seats = b.seats; cells = b.cells } in
-    let R : List Seat → BoxState = λ x. record { ways = c.ways; next = c.next; seats = x; cells = b.cells } in
-    let S : List ℕ → BoxState = λ x. record { ways = c.ways; next = c.next; seats = c.seats; cells = x } in
-    ap P p ∙ (ap Q q ∙ (ap R r ∙ ap S s))
+    let e : ◌≡◌ {A = BoxState} (record { ways = b.ways; next = b.next; seats = b.seats; cells = b.cells }) (record { ways = c.ways; next = c.next; seats = c.seats; cells = c.cells }) = rw (p, q, r, s) refl in
+    e
 
 pub same_turn : (o : Turn) (p : Option Pause) (w : ℕ) (b : BoxState) (at : ℕ) (out : List ℕ) → Turns o p w b at out → record { pause = p; written = w; box = b; place = at; memory = out } ≡ o
 same_turn o p w b at out s =
-    let k = same_box b o.box s.ways s.next s.seats s.cells in
-    let P : Option Pause → Turn = λ x. record { pause = x; written = w; box = b; place = at; memory = out } in
-    let W : ℕ → Turn = λ x. record { pause = o.pause; written = x; box = b; place = at; memory = out } in
-    let B : BoxState → Turn = λ x. record { pause = o.pause; written = o.written; box = x; place = at; memory = out } in
-    let A : ℕ → Turn = λ x. record { pause = o.pause; written = o.written; box = o.box; place = x; memory = out } in
-    let M : List ℕ → Turn = λ x. record { pause = o.pause; written = o.written; box = o.box; place = o.place; memory = x } in
-    ap P s.pause ∙ (ap W s.written ∙ (ap B k ∙ (ap A s.place ∙ ap M s.memory)))
+    rw (s.pause, s.written, same_box b o.box s.ways s.next s.seats s.cells, s.place, s.memory) refl

@@ -5,7 +5,7 @@ ghost use Rattle.line.specs.Streams.{waits_for};
 use crate::fault::LineFault;
 use crate::messages::{Message, decode};
 
-// The reader's place in the input.
+// The reader's place in the input. It stands apart from the input, which grows and is cut between two calls.
 #[derive(Clone, Copy)]
 pub struct Cursor {
     pub at: usize,

@@ -41,14 +41,8 @@ pub fn answer<S: Store>(
     };
     match next_message(place, input) {
         Ok(None) => Ok(Answered::End),
-        Ok(Some(message)) => {
-            let size = respond(gate, store, table, message, room);
-            Ok(Answered::Replied(size))
-        }
-        Err(fault) => {
-            let size = refuse(None, fault, room);
-            Ok(Answered::Over(size))
-        }
+        Ok(Some(message)) => Ok(Answered::Replied(respond(gate, store, table, message, room))),
+        Err(fault) => Ok(Answered::Over(refuse(None, fault, room))),
     }
 }
 

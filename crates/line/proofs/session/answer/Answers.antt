@@ -11,9 +11,9 @@ returns-in-Ok-None g c =
 pub returns-in-Ok-Some : goal.returns-in-Ok-Some
 returns-in-Ok-Some g c =
     let f = c.in-Some.ensures.cases in
-    answers-replied _ _ c.args.input.now _ f.enough _ c.in-Ok-Some.ensures.place _ (request_of c.in-Ok-Some.message) _ _ (let h = c.in-Ok-Some.ensures.answer in search rules) (rw f.same at c.respond-size.ensures)
+    answers-replied _ _ c.args.input.now _ f.enough _ c.in-Ok-Some.ensures.place c.respond.new.room (request_of c.in-Ok-Some.message) _ _ (let h = c.in-Ok-Some.ensures.answer in search rules) (rw f.same at c.respond.ensures)
 
 pub returns-in-Err : goal.returns-in-Err
 returns-in-Err g c =
     let f = c.in-Some.ensures.cases in
-    answers-over _ _ c.args.input.now _ f.enough _ c.in-Err.ensures.place _ c.in-Err.fault _ c.in-Err.ensures.answer (rw f.same at c.refuse-size.ensures)
+    answers-over _ _ c.args.input.now _ f.enough _ c.in-Err.ensures.place _ c.in-Err.fault _ c.in-Err.ensures.answer (rw f.same at c.refuse.ensures)
