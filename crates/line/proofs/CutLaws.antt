@@ -1,4 +1,5 @@
 -- The turns over a part of an input are the beginning of the whole session. Assumes nothing.
+--     still-within  what is written stays inside the reply memory
 --     cuts          whatever bytes come after the part
 use Rattle.std.proofs.Common.{◌≡◌, ℕ, zero, suc, ◌+◌, ◌≤◌, Bool, true, false, not, ◌&&◌, List, [], ◌++◌, length, take, drop, Some, None, Ok, Err, Option, Result, sym, refl, ap, ◌∙◌, arith}
 use Rattle.std.proofs.lemmas.List.{append_assoc, append-nil, drop-drop, length-append, length-take-le, take-append-drop, take_at}
@@ -12,7 +13,7 @@ use Rattle.line.specs.Sessions.{answered_to, reply_to, refusal_to}
 use Rattle.line.specs.Streams.{Turn, Turns, answer_at, goes_on, streamed, turn_of, turned, turned_by, waits_for}
 use Rattle.line.specs.Courses.{Course, Cuts, behind, course, course_by, course_rest}
 use Rattle.line.proofs.CourseLaws.{course-next, next_more, placed, size_kept}
-use Rattle.line.proofs.StreamLaws.{answered_cases, same_turn, turned_cases, written_in}
+use Rattle.line.proofs.StreamLaws.{answered_cases, same_turn, turn_by, turned_cases, written_in}
 
 take-two : (out ys zs : List ℕ) (w : ℕ) → w ≤ length out → take (w + length ys) (take w out ++ (ys ++ zs)) ≡ take w out ++ ys
 take-two out ys zs w h =
@@ -37,10 +38,6 @@ module _ (bs xs : List ℕ) (t : Turn) (h : t.written ≤ length t.memory) where
   abbrev rest : List ℕ
   rest = drop t.place bs
 
-  abbrev turn_to : Result (Option Request) LineFault → Turn
-  turn_to x =
-      turned_by (answered_to x t.box (place_of t.place rest) (drop t.written t.memory)).answer (answered_to x t.box (place_of t.place rest) (drop t.written t.memory)) t
-
   same_front : take t.written t.memory ≡ take t.written (take t.written t.memory ++ drop t.written t.memory)
   same_front = ap (take t.written) (sym (take-append-drop t.written t.memory))
 
@@ -49,7 +46,7 @@ module _ (bs xs : List ℕ) (t : Turn) (h : t.written ≤ length t.memory) where
       course-next t.box (rest ++ xs)
       ∙ ap (λ y. course_by y t.box (λ b. course b (drop (3 + size_in (rest ++ xs)) (rest ++ xs)))) e
 
-  found : (x : Result (Option Request) LineFault) → next_of rest ≡ x → next_of (rest ++ xs) ≡ x → finds bs xs t ≡ leaves bs xs (turn_to x)
+  found : (x : Result (Option Request) LineFault) → next_of rest ≡ x → next_of (rest ++ xs) ≡ x → finds bs xs t ≡ leaves bs xs (turn_by bs t x)
   found (Ok None) e k =
       let p : place_of t.place rest ≡ t.place = placed t.place rest _ e in
       ap (λ f. behind f (course t.box (rest ++ xs))) same_front

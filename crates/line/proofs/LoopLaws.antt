@@ -1,6 +1,7 @@
 -- The loop over the turns of an input. Assumes nothing.
---     nearer            a turn that goes on brings the place nearer to the end of the input
---     stops, goes_on_lem  a loop that stops with a turn, or goes on after it
+--     stops        a loop that stops with a turn
+--     nearer       a turn that goes on brings the place nearer to the end of the input
+--     goes_on_lem  a loop that goes on after a turn
 use Rattle.std.proofs.Common.{◌≡◌, ℕ, zero, suc, ◌<◌, ◌≤◌, Bool, List, length, drop, None, Some, Option, sym, refl, ap, ◌∙◌, subst, arith}
 use Rattle.std.proofs.lemmas.List.{length-drop}
 use Rattle.lock.specs.States.{BoxState}

@@ -1,5 +1,6 @@
 -- What holds when the turns over an input stop. Assumes nothing.
---     stops_left  of turns that are as many as the bytes, and one more
+--     Reason, Goes  what a turn comes to; turn_goes says that each does
+--     stops_left    what holds after turns that are as many as the bytes, and one more
 use Rattle.std.proofs.Common.{◌≡◌, ℕ, zero, suc, ◌+◌, ◌<◌, ◌≤◌, Bool, true, false, cond, not, ◌&&◌, eqb, List, length, get_or, take, drop, Some, None, Ok, Err, Option, Result, sym, refl, ap, ◌∙◌, subst, arith}
 use Rattle.std.proofs.lemmas.Bool.Decides.{nat_tests}
 use Rattle.std.proofs.lemmas.List.{length-drop, take-append-drop}
@@ -14,7 +15,7 @@ use Rattle.line.specs.Streams.{Turn, Turns, goes_on, streamed, turn_of, turned, 
 use Rattle.line.specs.Pauses.{Awaits, Left, left_by}
 use Rattle.line.proofs.CourseLaws.{next_fits, placed, waits_by}
 use Rattle.line.proofs.CutLaws.{still-within}
-use Rattle.line.proofs.StreamLaws.{answered_cases, same_turn, turned_cases}
+use Rattle.line.proofs.StreamLaws.{answered_cases, same_turn, turn_by, turned_cases}
 
 few_wait : (v l s : ℕ) → waits_by v l s ≡ true → l ≤ 86
 few_wait v l s h = grind (arith, nat_tests)
@@ -66,11 +67,7 @@ module _ (e : Bool) (bs : List ℕ) (t : Turn) (h : t.written ≤ length t.memor
       × (t.place ≤ u.place)
       × (u.pause ≡ Some Room → length (drop t.written t.memory) < 86)
 
-  abbrev turn_to : Result (Option Request) LineFault → Turn
-  turn_to x =
-      turned_by (answered_to x t.box (place_of t.place (drop t.place bs)) (drop t.written t.memory)).answer (answered_to x t.box (place_of t.place (drop t.place bs)) (drop t.written t.memory)) t
-
-  found : (x : Result (Option Request) LineFault) → next_of (drop t.place bs) ≡ x → Goes (turn_to x)
+  found : (x : Result (Option Request) LineFault) → next_of (drop t.place bs) ≡ x → Goes (turn_by bs t x)
   found (Ok None) k =
       let p : place_of t.place (drop t.place bs) ≡ t.place = placed t.place (drop t.place bs) _ k in
       let l : length (drop (place_of t.place (drop t.place bs)) bs) ≡ 0 = ap (λ n. length (drop n bs)) p ∙ end_empty (drop t.place bs) k in

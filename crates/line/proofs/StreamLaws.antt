@@ -1,5 +1,9 @@
 -- Turns of a session from its answers. Assumes nothing.
+--     answered_cases  what holds of an answer, by its two ways
+--     turned_cases    what holds of a turn, by its two ways
+--     turn_by         a turn by what the reader finds
 --     turns_awaiting  a turn that waits for input
+--     written_in      what an answer has written lies in its memory
 --     answered_turn   a turn that answers, and what it has written lies in the reply memory
 --     same_turn       what a function did is the turn
 use Rattle.std.proofs.Common.{◌≡◌, ℕ, ◌+◌, ◌-◌, ◌<◌, ◌≤◌, Bool, true, false, not, ◌&&◌, ltb, List, [], ◌++◌, length, take, drop, Some, None, Ok, Err, Option, Result, refl, ap, ◌∙◌, arith, ltb-true}
@@ -33,6 +37,11 @@ answered_cases b at bs out P f g =
 pub turned_cases : (e : Bool) (bs : List ℕ) (t : Turn) (P : Turn → Type 0) → ((not e && waits_for (drop t.place bs)) ≡ true → P (awaiting t)) → ((not e && waits_for (drop t.place bs)) ≡ false → P (turned_by (answer_at bs t).answer (answer_at bs t) t)) → P (turned e bs t)
 unfolding turned
 turned_cases e bs t P f g = cond_both (not e && waits_for (drop t.place bs)) _ _ P f g
+
+-- the turn after t, by what the reader finds
+abbrev pub turn_by : List ℕ → Turn → Result (Option Request) LineFault → Turn
+turn_by bs t x =
+    turned_by (answered_to x t.box (place_of t.place (drop t.place bs)) (drop t.written t.memory)).answer (answered_to x t.box (place_of t.place (drop t.place bs)) (drop t.written t.memory)) t
 
 module _ (e : Bool) (bs : List ℕ) (w : ℕ) (b : BoxState) (at : ℕ) (out : List ℕ) where
   pub turns_awaiting : true ≡ (not e && waits_for (drop at bs)) → Turns (turned e bs (turn_of w b at out)) (Some Input) w b at out
