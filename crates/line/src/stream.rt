@@ -61,8 +61,8 @@ pub fn answer_all<S: Store>(
     }
 }
 
-// Answers one message, if there is a whole one and room for the reply. Answers why it stops, if it does. Memory and
-// count stay two: a struct that holds the caller's memory needs a clause on its reference for each that it saves here.
+// Answers one message, if there is a whole one and room for the reply. Answers why it stops, if it does.
+// Memory and count stay two: a struct of both saves two clauses, and needs one on its reference and longer words in all.
 fn advance<S: Store>(
     gate: &mut BoxRecord,
     store: &mut S,
