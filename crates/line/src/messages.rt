@@ -81,7 +81,7 @@ pub(crate) fn decode(body: &[u8]) -> Result<Message<'_>, LineFault>
         (Kind::Look, [seat]) => Ok(Message::Look {
             seat: SeatId(*seat),
         }),
-        (Kind::Publish, [seat, hi, lo, text @ ..]) if 1 <= text.len() && text.len() <= 80 => {
+        (Kind::Publish, [seat, hi, lo, text @ ..]) if matches!(text.len(), 1..=80) => {
             Ok(Message::Publish {
                 seat: SeatId(*seat),
                 passage: joined(*hi, *lo),
