@@ -9,7 +9,7 @@ use Rattle.line.specs.declared.stream.Pause.{Pause}
 use Rattle.line.specs.Messages.{Request}
 use Rattle.line.specs.Reader.{next_of, place_of, size_in}
 use Rattle.line.specs.Serving.{served}
-use Rattle.line.specs.Sessions.{answered_to, reply_to, refusal_to}
+use Rattle.line.specs.Sessions.{reply_to, refusal_to}
 use Rattle.line.specs.Streams.{Turn, Turns, answer_at, goes_on, streamed, turn_of, turned, turned_by, waits_for}
 use Rattle.line.specs.Courses.{Course, Cuts, behind, course, course_by, course_rest}
 use Rattle.line.proofs.CourseLaws.{course-next, next_more, placed, size_kept}

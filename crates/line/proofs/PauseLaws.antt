@@ -10,7 +10,6 @@ use Rattle.line.specs.declared.stream.Pause.{Pause}
 use Rattle.line.specs.declared.stream.Pause.TheVariants.{Room}
 use Rattle.line.specs.Messages.{Request, message_of}
 use Rattle.line.specs.Reader.{after_header, header_of, next_of, place_of, read_body, size_in}
-use Rattle.line.specs.Sessions.{answered_to}
 use Rattle.line.specs.Streams.{Turn, Turns, goes_on, streamed, turn_of, turned, turned_by, waits_for}
 use Rattle.line.specs.Pauses.{Awaits, Left, left_by}
 use Rattle.line.proofs.CourseLaws.{next_fits, placed, waits_by}
