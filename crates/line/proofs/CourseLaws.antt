@@ -3,17 +3,17 @@
 --     course-end    a session with no input left
 --     next_more     what the reader finds stays, whatever bytes come after a rest that does not wait for any
 --     next_fits     a message that was read lies in the rest
---     place_by_lem  the reader's place by what it finds
+--     placed        the reader's place by what it finds
 --     waits_by      whether a rest waits, by its version, its length and its size
 --     size_kept     what follows a message that was read stays too
-use Rattle.std.proofs.Common.{◌≡◌, ℕ, zero, suc, ◌+◌, ◌-◌, ◌*◌, ◌≤◌, Bool, true, false, cond, not, ◌&&◌, ◌||◌, eqb, ltb, leb, List, [], ◌++◌, length, get_or, take, drop, Some, None, Ok, Err, Option, Result, sym, refl, ap, ◌∙◌, arith, ne_eqb}
+use Rattle.std.proofs.Common.{◌≡◌, ℕ, zero, suc, ◌+◌, ◌-◌, ◌≤◌, Bool, true, false, cond, not, ◌&&◌, ◌||◌, eqb, ltb, leb, List, [], ◌++◌, length, get_or, drop, Some, None, Ok, Err, Option, Result, sym, refl, ap, ◌∙◌, arith, ne_eqb}
 use Rattle.std.proofs.lemmas.Bool.Decides.{nat_tests}
 use Rattle.std.proofs.lemmas.List.{length-append, length-drop, drop-append-le, take-append-le, get_or_append_left, nil_from_length}
 use Rattle.lock.specs.States.{BoxState}
 use Rattle.line.specs.declared.fault.LineFault.{LineFault}
 use Rattle.line.specs.declared.fault.LineFault.TheVariants.{Version, Frame}
-use Rattle.line.specs.Messages.{Request, message_of}
-use Rattle.line.specs.Reader.{after_header, header_of, next_at, next_of, place_by, place_of, read_body, size_in}
+use Rattle.line.specs.Messages.{Request}
+use Rattle.line.specs.Reader.{after_header, header_of, next_of, place_by, place_of, size_in}
 use Rattle.line.specs.Serving.{served}
 use Rattle.line.specs.Sessions.{reply_to}
 use Rattle.line.specs.Streams.{waits_for}
@@ -21,7 +21,7 @@ use Rattle.line.specs.Courses.{Course, behind, course, course_by, course_in}
 
 next_none : (bs : List ℕ) → length bs ≡ 0 → next_of bs ≡ Ok None
 unfolding next_of
-next_none bs h = ap next_at (nil_from_length bs h)
+next_none bs h = rw (nil_from_length bs h) refl
 
 by_same : (x : Result (Option Request) LineFault) (b : BoxState) (f g : BoxState → Course) → ((b' : BoxState) → f b' ≡ g b') → course_by x b f ≡ course_by x b g
 by_same (Ok None) b f g h = refl
@@ -75,16 +75,14 @@ not_empty v l s h = grind (arith, nat_tests)
 
 size_more : (rest xs : List ℕ) → 3 ≤ length rest → size_in (rest ++ xs) ≡ size_in rest
 size_more rest xs h =
-    let i = get_or_append_left rest xs 0 1 (omega arith) in
-    let j = get_or_append_left rest xs 0 2 (omega arith) in
-    ap (λ x. x * 256 + get_or (rest ++ xs) 2 0) i ∙ ap (λ x. get_or rest 1 0 * 256 + x) j
+    let i = get_or_append_left rest xs 0 1 (omega arith) in let j = get_or_append_left rest xs 0 2 (omega arith) in cc
 
 body_more : (rest xs : List ℕ) (y : Result ℕ LineFault) → header_of rest ≡ y → after_header (rest ++ xs) y ≡ after_header rest y
 body_more rest xs (Ok n) e =
     let f = header_fits (get_or rest 0 0) (length rest) (size_in rest) n e in
     let g : n ≤ length (drop 3 rest) = simp length-drop (omega (arith, f.1)) in
     let i = drop-append-le 3 rest xs (omega (arith, f.1)) in
-    ap (λ l. read_body (message_of (take n l))) i ∙ ap (λ l. read_body (message_of l)) (take-append-le n (drop 3 rest) xs g)
+    rw (i, take-append-le n (drop 3 rest) xs g) refl
 body_more rest xs (Err f) e = refl
 
 pub next_more : (rest xs : List ℕ) → waits_for rest ≡ false → next_of (rest ++ xs) ≡ next_of rest
@@ -97,16 +95,13 @@ next_more rest xs h =
     ∙ header_more (get_or rest 0 0) (length rest) (length (rest ++ xs)) (size_in rest) (size_in (rest ++ xs)) h (omega arith) (size_more rest xs) in
     let y : eqb (length (rest ++ xs)) 0 ≡ false = ne_eqb (length (rest ++ xs)) 0 (λ k. omega arith) in
     let z : eqb (length rest) 0 ≡ false = ne_eqb (length rest) 0 (λ k. omega arith) in
-    ap (λ t. cond t (Ok None) (after_header (rest ++ xs) (header_of (rest ++ xs)))) y
-    ∙ (ap (after_header (rest ++ xs)) hd
-    ∙ (body_more rest xs (header_of rest) refl
-    ∙ sym (ap (λ t. cond t (Ok None) (after_header rest (header_of rest))) z)))
+    rw (y, z, hd) (body_more rest xs (header_of rest) refl)
 
 fits_by : (rest : List ℕ) (q : Request) (z : Bool) (y : Result ℕ LineFault) → header_of rest ≡ y → cond z (Ok None) (after_header rest y) ≡ Ok (Some q) → 3 + size_in rest ≤ length rest
-fits_by rest q true y e k = let z : ◌≡◌ {A = ℕ} 0 1 = cc in omega arith
+fits_by rest q true y e k = cc
 fits_by rest q false (Ok n) e k =
     let f = header_fits (get_or rest 0 0) (length rest) (size_in rest) n e in omega (arith, f.0, f.1)
-fits_by rest q false (Err f) e k = let z : ◌≡◌ {A = ℕ} 0 1 = cc in omega arith
+fits_by rest q false (Err f) e k = cc
 
 pub next_fits : (rest : List ℕ) (q : Request) → next_of rest ≡ Ok (Some q) → 3 + size_in rest ≤ length rest
 unfolding next_of
@@ -117,6 +112,9 @@ size_kept rest xs q e =
     let f = next_fits rest q e in
     ap (λ n. drop (3 + n) (rest ++ xs)) (size_more rest xs (omega arith)) ∙ drop-append-le (3 + size_in rest) rest xs f
 
-pub place_by_lem : (at : ℕ) (rest : List ℕ) → place_of at rest ≡ place_by at rest (next_of rest)
-unfolding place_of next_of
+place_by_lem : (at : ℕ) (rest : List ℕ) → place_of at rest ≡ place_by at rest (next_of rest)
+unfolding place_of
 place_by_lem at rest = refl
+
+pub placed : (at : ℕ) (rest : List ℕ) (x : Result (Option Request) LineFault) → next_of rest ≡ x → place_of at rest ≡ place_by at rest x
+placed at rest x e = place_by_lem at rest ∙ ap (place_by at rest) e

@@ -1,9 +1,8 @@
 pub mod ReplyLaws
-pub mod ServingLaws
-pub mod ReaderLaws
 pub mod SessionLaws
 pub mod StreamLaws
 pub mod CourseLaws
 pub mod CutLaws
 pub mod PauseLaws
+pub mod LoopLaws
 pub mod SessionFacts

@@ -1,21 +1,20 @@
 -- What holds when the turns over an input stop. Assumes nothing.
---     stops_left  of turns that are as many as the bytes, and one more
-use Rattle.std.proofs.Common.{◌≡◌, ℕ, zero, suc, ◌+◌, ◌<◌, ◌≤◌, Bool, true, false, cond, not, ◌&&◌, eqb, ltb, List, [], ◌++◌, length, get_or, take, drop, Some, None, Ok, Err, Option, Result, sym, refl, ap, ◌∙◌, subst, arith, ltb-true}
+--     Reason, Goes  what a turn comes to; turn_goes says that each does
+--     stops_left    what holds after turns that are as many as the bytes, and one more
+use Rattle.std.proofs.Common.{◌≡◌, ℕ, zero, suc, ◌+◌, ◌<◌, ◌≤◌, Bool, true, false, cond, not, ◌&&◌, eqb, List, length, get_or, take, drop, Some, None, Ok, Err, Option, Result, sym, refl, ap, ◌∙◌, subst, arith}
 use Rattle.std.proofs.lemmas.Bool.Decides.{nat_tests}
 use Rattle.std.proofs.lemmas.List.{length-drop, take-append-drop}
 use Rattle.lock.specs.States.{BoxState}
 use Rattle.line.specs.declared.fault.LineFault.{LineFault}
-use Rattle.line.specs.declared.fault.LineFault.TheVariants.{ReplyRoom}
 use Rattle.line.specs.declared.stream.Pause.{Pause}
 use Rattle.line.specs.declared.stream.Pause.TheVariants.{Room}
 use Rattle.line.specs.Messages.{Request, message_of}
-use Rattle.line.specs.Reader.{after_header, header_of, next_of, place_by, place_of, read_body, size_in}
-use Rattle.line.specs.Sessions.{Answering, answered, answered_to}
-use Rattle.line.specs.Streams.{Turn, Turns, answer_at, awaiting, goes_on, streamed, turn_of, turned, turned_by, waits_for}
+use Rattle.line.specs.Reader.{after_header, header_of, next_of, place_of, read_body, size_in}
+use Rattle.line.specs.Streams.{Turn, Turns, goes_on, streamed, turn_of, turned, turned_by, waits_for}
 use Rattle.line.specs.Pauses.{Awaits, Left, left_by}
-use Rattle.line.proofs.CourseLaws.{next_fits, place_by_lem, waits_by}
+use Rattle.line.proofs.CourseLaws.{next_fits, placed, waits_by}
 use Rattle.line.proofs.CutLaws.{still-within}
-use Rattle.line.proofs.StreamLaws.{same_turn}
+use Rattle.line.proofs.StreamLaws.{answered_cases, same_turn, turn_by, turned_cases}
 
 few_wait : (v l s : ℕ) → waits_by v l s ≡ true → l ≤ 86
 few_wait v l s h = grind (arith, nat_tests)
@@ -24,12 +23,12 @@ none_waits : (v l s : ℕ) → l ≡ 0 → waits_by v l s ≡ true
 none_waits v l s h = grind (arith, nat_tests)
 
 body_some : (x : Result Request LineFault) → read_body x ≡ Ok None → ⊥
-body_some (Ok q) k = let z : ◌≡◌ {A = ℕ} 0 1 = cc in omega arith
-body_some (Err f) k = let z : ◌≡◌ {A = ℕ} 0 1 = cc in omega arith
+body_some (Ok q) k = cc
+body_some (Err f) k = cc
 
 after_some : (rest : List ℕ) (y : Result ℕ LineFault) → after_header rest y ≡ Ok None → ⊥
 after_some rest (Ok n) k = body_some (message_of (take n (drop 3 rest))) k
-after_some rest (Err f) k = let z : ◌≡◌ {A = ℕ} 0 1 = cc in omega arith
+after_some rest (Err f) k = cc
 
 end_by : (rest : List ℕ) (z : Bool) → eqb (length rest) 0 ≡ z → cond z (Ok None) (after_header rest (header_of rest)) ≡ Ok None → length rest ≡ 0
 end_by rest true e k = grind (arith, nat_tests)
@@ -41,11 +40,11 @@ unfolding next_of
 end_empty rest k = end_by rest (eqb (length rest) 0) refl k
 
 awaits_open : (e : Bool) (rest : List ℕ) → (not e && waits_for rest) ≡ true → Awaits e rest
-awaits_open true rest h = let z : ◌≡◌ {A = ℕ} 0 1 = cc in absurd (omega arith)
+awaits_open true rest h = cc
 awaits_open false rest h =
     record {
       waiting = λ _. h;
-      spent = λ k. let z : ◌≡◌ {A = ℕ} 0 1 = cc in absurd (omega arith);
+      spent = λ k. cc;
       few = few_wait (get_or rest 0 0) (length rest) (size_in rest) h;
     }
 
@@ -55,55 +54,39 @@ awaits_end e rest h =
 
 module _ (e : Bool) (bs : List ℕ) (t : Turn) (h : t.written ≤ length t.memory) where
   -- a turn goes on with fewer bytes, or stops for its reason
-  abbrev Reason : Option Pause → Turn → Type 0
+  abbrev pub Reason : Option Pause → Turn → Type 0
   Reason None u = length (drop u.place bs) < length (drop t.place bs)
   Reason (Some p) u = left_by p e (drop u.place bs) (drop u.written u.memory)
 
   -- its place goes no way back, and it stops for want of room only where there is none
-  abbrev Goes : Turn → Type 0
+  abbrev pub Goes : Turn → Type 0
   Goes u =
       Reason u.pause u
       × (t.place ≤ length bs → u.place ≤ length bs)
       × (t.place ≤ u.place)
       × (u.pause ≡ Some Room → length (drop t.written t.memory) < 86)
 
-  abbrev turn_to : Result (Option Request) LineFault → Turn
-  turn_to x =
-      turned_by (answered_to x t.box (place_of t.place (drop t.place bs)) (drop t.written t.memory)).answer (answered_to x t.box (place_of t.place (drop t.place bs)) (drop t.written t.memory)) t
-
-  found : (x : Result (Option Request) LineFault) → next_of (drop t.place bs) ≡ x → Goes (turn_to x)
+  found : (x : Result (Option Request) LineFault) → next_of (drop t.place bs) ≡ x → Goes (turn_by bs t x)
   found (Ok None) k =
-      let p : place_of t.place (drop t.place bs) ≡ t.place = place_by_lem t.place (drop t.place bs) ∙ ap (place_by t.place (drop t.place bs)) k in
+      let p : place_of t.place (drop t.place bs) ≡ t.place = placed t.place (drop t.place bs) _ k in
       let l : length (drop (place_of t.place (drop t.place bs)) bs) ≡ 0 = ap (λ n. length (drop n bs)) p ∙ end_empty (drop t.place bs) k in
-      (awaits_end e (drop (place_of t.place (drop t.place bs)) bs) l, λ i. omega (arith, p), omega (arith, p), λ i. let z : ◌≡◌ {A = ℕ} 0 1 = cc in absurd (omega arith))
+      (awaits_end e (drop (place_of t.place (drop t.place bs)) bs) l, λ i. omega (arith, p), omega (arith, p), λ i. cc)
   found (Ok (Some q)) k =
-      let p : place_of t.place (drop t.place bs) ≡ t.place + 3 + size_in (drop t.place bs) = place_by_lem t.place (drop t.place bs) ∙ ap (place_by t.place (drop t.place bs)) k in
+      let p : place_of t.place (drop t.place bs) ≡ t.place + 3 + size_in (drop t.place bs) = placed t.place (drop t.place bs) _ k in
       let f = next_fits (drop t.place bs) q k in
       let l = length-drop t.place bs in
       let m = length-drop (place_of t.place (drop t.place bs)) bs in
-      (omega arith, λ i. omega arith, omega arith, λ i. let z : ◌≡◌ {A = ℕ} 0 1 = cc in absurd (omega arith))
+      (omega arith, λ i. omega arith, omega arith, λ i. cc)
   found (Err x) k =
-      let p : place_of t.place (drop t.place bs) ≡ t.place = place_by_lem t.place (drop t.place bs) ∙ ap (place_by t.place (drop t.place bs)) k in
-      (tt, λ i. omega (arith, p), omega (arith, p), λ i. let z : ◌≡◌ {A = ℕ} 0 1 = cc in absurd (omega arith))
+      let p : place_of t.place (drop t.place bs) ≡ t.place = placed t.place (drop t.place bs) _ k in
+      (tt, λ i. omega (arith, p), omega (arith, p), λ i. cc)
 
-  by_room : (z : Bool) → ltb (length (drop t.written t.memory)) 86 ≡ z → (o : Answering) → o ≡ cond z (record { answer = Err ReplyRoom; box = t.box; place = t.place; memory = drop t.written t.memory }) (answered_to (next_of (drop t.place bs)) t.box (place_of t.place (drop t.place bs)) (drop t.written t.memory)) → Goes (turned_by o.answer o t)
-  by_room true z o k =
-      let r : drop t.written (take t.written t.memory ++ drop t.written t.memory) ≡ drop t.written t.memory = ap (drop t.written) (take-append-drop t.written t.memory) in
-      let l = ltb-true (length (drop t.written t.memory)) 86 z in
-      let m = ap length r in
-      subst (λ (x : Answering). Goes (turned_by x.answer x t)) (sym k) (omega arith, λ i. i, omega arith, λ i. l)
-  by_room false z o k =
-      subst (λ (x : Answering). Goes (turned_by x.answer x t)) (sym k) (found (next_of (drop t.place bs)) refl)
-
-  by_waiting : (z : Bool) → (not e && waits_for (drop t.place bs)) ≡ z → Goes (cond z (awaiting t) (turned_by (answer_at bs t).answer (answer_at bs t) t))
-  unfolding answered
-  by_waiting true z =
-      (awaits_open e (drop t.place bs) z, λ i. i, omega arith, λ i. let z : ◌≡◌ {A = ℕ} 0 1 = cc in absurd (omega arith))
-  by_waiting false z = by_room (ltb (length (drop t.written t.memory)) 86) refl (answer_at bs t) refl
-
-  turn_goes : Goes (turned e bs t)
-  unfolding turned
-  turn_goes = by_waiting (not e && waits_for (drop t.place bs)) refl
+  pub turn_goes : Goes (turned e bs t)
+  turn_goes =
+      turned_cases e bs t Goes (λ z. (awaits_open e (drop t.place bs) z, λ i. i, omega arith, λ i. cc))
+      (λ z. answered_cases t.box t.place bs (drop t.written t.memory) (λ o. Goes (turned_by o.answer o t))
+      (λ l. let m = ap (λ x. length (drop t.written x)) (take-append-drop t.written t.memory) in (omega arith, λ i. i, omega arith, λ i. l))
+      (found (next_of (drop t.place bs)) refl))
 
 -- what holds at a stop, of a turn after t
 abbrev Stops : Bool → List ℕ → Turn → Turn → Type 0
@@ -129,7 +112,7 @@ module _ (e : Bool) (bs : List ℕ) (t u : Turn) (h : t.written ≤ length t.mem
 turns_stop : (n : ℕ) (e : Bool) (bs : List ℕ) (t : Turn) → t.written ≤ length t.memory → length (drop t.place bs) < n → Stops e bs t (streamed n e bs t)
 turns_stop zero e bs t h l = absurd (omega arith)
 turns_stop (suc n) e bs t h l =
-    let s = still-within bs [] t h e (λ _. refl) in
+    let s = still-within e bs t h in
     onward e bs t (turned e bs t) h n l s (turn_goes e bs t h) (streamed n e bs) (turned e bs t).pause refl
     (λ m. turns_stop n e bs (turned e bs t) s m)
 

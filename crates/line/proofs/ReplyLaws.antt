@@ -1,32 +1,29 @@
--- A reply that is written in two parts. Assumes nothing.
---     framed        six bytes at the front and a text after them are the reply in its frame
---     written-text  they are what an accepted publish writes
-use Rattle.std.proofs.Common.{◌≡◌, ℕ, suc, ◌+◌, ◌/◌, ◌%◌, ◌≤◌, List, ◌∷◌, ◌++◌, length, take, drop, Ok, sym, ap, ◌∙◌, subst, arith, Bor}
-use Rattle.std.proofs.lemmas.List.{drop-drop}
-use Rattle.seats.specs.declared.state.State.{State}
-use Rattle.seats.specs.Places.{state_number}
+-- Replies in their memory. Assumes nothing.
+--     framed      a header, a head and a text after one another are the frame of head and text
+--     reply_fits  the longest reply has 86 bytes
+--     onto_front  what is written onto the front of a memory is written onto the memory
+use Rattle.std.proofs.Common.{◌≡◌, ℕ, ◌+◌, ◌/◌, ◌%◌, ◌≤◌, List, ◌∷◌, ◌++◌, length, take, drop, Ok, Err, Result, sym, refl, ap, ◌∙◌, subst, arith, append_assoc, length-append}
+use Rattle.std.proofs.lemmas.List.{drop-drop, drop-append-le, length-take-le, take-append-drop}
+use Rattle.line.specs.declared.fault.LineFault.{LineFault}
 use Rattle.line.specs.declared.replies.Reply.{Reply}
-use Rattle.line.specs.declared.replies.Reply.TheVariants.{Published}
-use Rattle.line.specs.Replies.{Written, content_of, frame_of, onto, reply_body}
+use Rattle.line.specs.Replies.{Written, frame_of, onto}
+use Rattle.line.specs.Serving.{reply_in, size_of}
 
-module _ (out o₁ o₂ text : List ℕ) where
-  two_puts : (a b c d e f : ℕ) → o₁ ≡ a ∷ b ∷ c ∷ d ∷ e ∷ f ∷ drop 6 out → o₂ ≡ take 6 o₁ ++ (text ++ drop (6 + length text) o₁) → o₂ ≡ a ∷ b ∷ c ∷ d ∷ e ∷ f ∷ (text ++ drop (6 + length text) out)
-  two_puts a b c d e f p q =
-      q
-      ∙ (ap (λ o. take 6 o ++ (text ++ drop (6 + length text) o)) p
-      ∙ ap (λ r. a ∷ b ∷ c ∷ d ∷ e ∷ f ∷ (text ++ r)) (sym (drop-drop (length text) 6 (a ∷ b ∷ c ∷ d ∷ e ∷ f ∷ drop 6 out)) ∙ drop-drop (length text) 6 out))
+pub framed : (out h t : List ℕ) → length h + length t ≤ 83 → Written (h ++ t) out (3 + (length h + length t)) (1 ∷ ((length h + length t) / 256) % 256 ∷ (length h + length t) % 256 ∷ (h ++ (t ++ drop (length t) (drop (length h) (drop 3 out)))))
+framed out h t k =
+    let l : length (h ++ t) ≡ length h + length t = length-append h t in
+    let n : 3 + (length h + length t) ≡ length (frame_of (h ++ t)) = omega arith in
+    let z : ((length h + length t) / 256) % 256 ≡ (length h + length t) / 256 = omega arith in
+    let d : drop (length t) (drop (length h) (drop 3 out)) ≡ drop (3 + (length h + length t)) out = rw (drop-drop, drop-drop) refl in
+    record { size = n; bytes = subst (λ (m : ℕ). 1 ∷ ((length h + length t) / 256) % 256 ∷ (length h + length t) % 256 ∷ (h ++ (t ++ drop (length t) (drop (length h) (drop 3 out)))) ≡ frame_of (h ++ t) ++ drop m out) n (simp (l, z, d, append_assoc)) }
 
-  pub framed : (kind state : ℕ) → length text ≤ 80 → o₁ ≡ 1 ∷ 0 ∷ (3 + length text) ∷ kind ∷ 0 ∷ state ∷ drop 6 out → o₂ ≡ take 6 o₁ ++ (text ++ drop (6 + length text) o₁) → o₂ ≡ onto (frame_of (kind ∷ 0 ∷ state ∷ text)) out
-  framed kind state h p q =
-      let t = two_puts 1 0 (3 + length text) kind 0 state p q in
-      let z : suc (suc (suc (length text))) / 256 ≡ 0 = omega arith in
-      let y : suc (suc (suc (length text))) % 256 ≡ 3 + length text = omega arith in
-      let x : suc (suc (suc (suc (suc (suc (length text)))))) ≡ 6 + length text = omega arith in
-      cc
+pub onto_front : (m : ℕ) (bs out room : List ℕ) → m ≤ length out → length bs ≤ m → room ≡ onto bs (take m out) → room ++ drop m out ≡ onto bs out
+onto_front m bs out room h k e =
+    let j = length-take-le m out h in
+    let l : length bs ≤ length (take m out) = omega arith in
+    rw e (rw append_assoc (ap (λ x. bs ++ x) (sym (drop-append-le (length bs) (take m out) (drop m out) l) ∙ ap (drop (length bs)) (take-append-drop m out))))
 
--- what an accepted publish writes, by the names that the code has
-pub written-text : (kind n : ℕ) (s : State) (t : Bor (List ℕ)) (r : Reply) (out after : List ℕ) → r ≡ Published s t → n ≡ state_number s → after ≡ onto (frame_of (kind ∷ 0 ∷ n ∷ t.now)) out → Written (reply_body kind (Ok (content_of r))) out (6 + length t.now) after
-written-text kind n s t r out after e h w =
-    let k : n ∷ t.now ≡ content_of r = ap (λ x. x ∷ t.now) h ∙ sym (ap content_of e) in
-    subst (λ (x : List ℕ). Written (reply_body kind (Ok x)) out (6 + length t.now) after) k
-    (record { size = omega arith; bytes = w })
+-- no reply is longer than its memory
+pub reply_fits : (k : ℕ) (r : Result Reply LineFault) → size_of r ≤ 81 → length (frame_of (reply_in k r)) ≤ 86
+reply_fits k (Ok r) h = omega arith
+reply_fits k (Err f) h = omega arith

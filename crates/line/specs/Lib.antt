@@ -1,4 +1,5 @@
 pub mod Faults
+pub mod Kinds
 pub mod Messages
 pub mod Reader
 pub mod Replies

@@ -2,8 +2,7 @@
 --     Request        what a message asks, a text by its bytes
 --     request_of m   what the message m asks; request_in, of one that may not have been read
 --     kind_of q      the kind byte of a request
---     message_of bs  what the body bs asks: the kind is known (33), and the length is right for the kind (34);
---                    message_at is the same, open
+--     message_of bs  what the body bs asks: the kind is known (33), and the length is right for the kind (34)
 --     Short r        the text of a message that has one is at most 80 bytes long
 use Rattle.std.specs.Prelude.{ℕ, ◌+◌, ◌*◌, ◌≤◌, Bool, cond, ◌&&◌, List, length, drop, Ok, Err, Result, ◌==◌, nat_le, slice_index}
 use Rattle.line.specs.declared.messages.Message.{Message}
@@ -61,8 +60,8 @@ abbrev pub sized : ℕ → Bool → Request → Result Request LineFault
 sized k right q = cond right (Ok q) (Err (Length k))
 
 -- the first byte tells the kind, and each kind has its length
-abbrev pub message_at : List ℕ → Result Request LineFault
-message_at bs =
+unfoldable pub message_of : List ℕ → Result Request LineFault
+message_of bs =
     cond (length bs == 0) (Err Kind)
     (cond (slice_index bs 0 == 1) (sized 1 (length bs == 2) (applies (slice_index bs 1)))
     (cond (slice_index bs 0 == 2) (sized 2 (length bs == 5) (polls (slice_index bs 1) (passage_in bs) (slice_index bs 4)))
@@ -72,7 +71,3 @@ message_at bs =
     (cond (slice_index bs 0 == 6)
     (sized 6 (nat_le 5 (length bs) && nat_le (length bs) 84) (publishes (slice_index bs 1) (passage_in bs) (drop 4 bs)))
     (Err Kind)))))))
-
--- the same, shut, for those who build on it
-unfoldable pub message_of : List ℕ → Result Request LineFault
-message_of bs = message_at bs

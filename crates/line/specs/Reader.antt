@@ -1,11 +1,13 @@
 -- The reader: what it finds in the bytes that are left, and its place afterwards. Assumes nothing.
 --     size_in rest      the length that a header says
 --     header_of rest    the length of the body: the version is 1 (31), the length lawful, and all bytes are there (32)
---     next_of rest      what the next message asks, or that there is none; next_at is the same, open
---     place_of at rest  the place after it; place_at is the same, open
+--     size_found r      that length, by what was found of the body; missing r says that bytes of the body are missing
+--     next_of rest      what the next message asks, or that there is none
+--     place_of at rest  the place after it
 --     request_next r    what a message that was read asks
 --     ShortNext r       the text of a message that has one is at most 80 bytes long
-use Rattle.std.specs.Prelude.{ℕ, ◌+◌, ◌-◌, ◌*◌, ◌≤◌, cond, not, ◌||◌, List, length, take, drop, Some, None, Ok, Err, Option, Result, ◌==◌, nat_lt, slice_index}
+use Rattle.std.specs.Prelude.{ℕ, ◌+◌, ◌-◌, ◌*◌, ◌≤◌, Bool, true, false, cond, not, ◌||◌, List, length, take, drop, Some, None, Ok, Err, Option, Result, ◌==◌, nat_lt, slice_index}
+use Rattle.std.specs.Borrow.{Bor}
 use Rattle.line.specs.declared.messages.Message.{Message}
 use Rattle.line.specs.declared.fault.LineFault.{LineFault}
 use Rattle.line.specs.declared.fault.LineFault.TheVariants.{Version, Frame}
@@ -22,6 +24,17 @@ header_of rest =
     (cond (nat_lt (size_in rest) 1 || (nat_lt 84 (size_in rest) || nat_lt (length rest - 3) (size_in rest))) (Err Frame)
     (Ok (size_in rest))))
 
+-- the same, by what was found of the body that a header announces: it is whole, or bytes of it are missing
+abbrev pub size_found : Result (Option (Bor (List ℕ))) LineFault → Result ℕ LineFault
+size_found (Ok (Some body)) = Ok (length body.now)
+size_found (Ok None) = Err Frame
+size_found (Err e) = Err e
+
+abbrev pub missing : Result (Option (Bor (List ℕ))) LineFault → Bool
+missing (Ok (Some body)) = false
+missing (Ok None) = true
+missing (Err e) = false
+
 abbrev pub read_body : Result Request LineFault → Result (Option Request) LineFault
 read_body (Ok q) = Ok (Some q)
 read_body (Err e) = Err e
@@ -31,8 +44,8 @@ after_header rest (Ok n) = read_body (message_of (take n (drop 3 rest)))
 after_header rest (Err e) = Err e
 
 -- an empty rest is the end
-abbrev pub next_at : List ℕ → Result (Option Request) LineFault
-next_at rest = cond (length rest == 0) (Ok None) (after_header rest (header_of rest))
+unfoldable pub next_of : List ℕ → Result (Option Request) LineFault
+next_of rest = cond (length rest == 0) (Ok None) (after_header rest (header_of rest))
 
 -- past the message, if it was accepted; else the message's first byte
 abbrev pub place_by : ℕ → List ℕ → Result (Option Request) LineFault → ℕ
@@ -40,8 +53,8 @@ place_by at rest (Ok None) = at
 place_by at rest (Ok (Some q)) = at + 3 + size_in rest
 place_by at rest (Err e) = at
 
-abbrev pub place_at : ℕ → List ℕ → ℕ
-place_at at rest = place_by at rest (next_at rest)
+unfoldable pub place_of : ℕ → List ℕ → ℕ
+place_of at rest = place_by at rest (next_of rest)
 
 abbrev pub request_next : Result (Option Message) LineFault → Result (Option Request) LineFault
 request_next (Ok None) = Ok None
@@ -52,10 +65,3 @@ abbrev pub ShortNext : Result (Option Message) LineFault → Type 0
 ShortNext (Ok None) = Unit {0}
 ShortNext (Ok (Some m)) = text_size m ≤ 80
 ShortNext (Err e) = Unit {0}
-
--- the same, shut, for those who build on it
-unfoldable pub next_of : List ℕ → Result (Option Request) LineFault
-next_of rest = next_at rest
-
-unfoldable pub place_of : ℕ → List ℕ → ℕ
-place_of at rest = place_at at rest

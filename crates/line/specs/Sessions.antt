@@ -5,7 +5,7 @@
 --                           reader's place and the reply memory
 --     answered b at bs out  the answer to the next message of the input bs from the place at, over the reply memory out
 --     Answers, Responds     a function answered, and left everything, as these say
-use Rattle.std.specs.Prelude.{◌≡◌, ℕ, cond, List, length, drop, Some, None, Ok, Err, Option, Result, nat_lt}
+use Rattle.std.specs.Prelude.{◌≡◌, ℕ, ◌≤◌, cond, List, length, drop, Some, None, Ok, Err, Option, Result, nat_lt}
 use Rattle.lock.specs.States.{BoxState, CallOutcome}
 use Rattle.line.specs.declared.fault.LineFault.{LineFault}
 use Rattle.line.specs.declared.fault.LineFault.TheVariants.{ReplyRoom}
@@ -54,6 +54,7 @@ pub record Answers (o : Answering) (r : Result Answered LineFault) (b : BoxState
 
 pub record Responds (q : Request) (o : CallOutcome (List ℕ)) (out : List ℕ) (r : ℕ) (b : BoxState) (out' : List ℕ) : Type 0 where
   pub written : Written (reply_body (kind_of q) o.answer) out r out'
+  pub short : r ≤ 86
   pub ways : b.ways ≡ o.after.ways
   pub next : b.next ≡ o.after.next
   pub seats : b.seats ≡ o.after.seats

@@ -15,7 +15,7 @@ pub enum LineFault {
     Frame,
     // no such kind
     Kind,
-    // another length than this kind has
+    // another length than this kind has; a byte and no `Kind`, since whoever builds a fault may tell any
     Length { kind: u8 },
     // the box refused the call
     Box(BoxFault),
@@ -24,6 +24,7 @@ pub enum LineFault {
 // A refusal as it is told on the line: the kind byte of its reply, and what follows.
 #[derive(Clone, Copy, PartialEq, Eq, Debug)]
 pub struct LineRefusal {
+    // a byte and no `Kind`: the format has 0 where no kind is known
     pub kind: u8,
     pub refusal: Refusal,
 }

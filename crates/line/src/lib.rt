@@ -2,6 +2,7 @@
 #![tactic(auto)]
 
 pub mod fault;
+mod kinds;
 mod messages;
 mod reader;
 mod replies;
@@ -10,6 +11,7 @@ pub mod session;
 pub mod stream;
 
 pub use fault::{LineFault, LineRefusal};
+pub use kinds::Kind;
 pub use messages::Message;
 pub use reader::{Cursor, next_message};
 pub use session::{Answered, answer};

@@ -1,10 +1,13 @@
 ghost use Rattle.std.specs.Prelude.{◌≡◌, ◌+◌, ◌*◌};
-ghost use Rattle.line.specs.Messages.{kind_of, message_of, request_in, request_of, message_at, Short};
+ghost use Rattle.line.specs.Kinds.{kind_number};
+ghost use Rattle.line.specs.Messages.{Short, kind_of, message_of, request_in, request_of};
 
 use crate::fault::LineFault;
+use crate::kinds::Kind;
 use layout::{Passage, SeatId};
 
-// A message. The text that is published is a part of the input.
+// A message. The text that is published is a part of the input. It may have any length here, since `kind` asks nothing
+// of its caller: so contracts say, and no ghost field does, that a text which was read has at most 80 bytes.
 #[derive(Clone, Copy)]
 pub enum Message<'a> {
     Apply {
@@ -34,63 +37,58 @@ pub enum Message<'a> {
 }
 
 impl Message<'_> {
-    // The kind byte.
-    pub fn kind(&self) -> u8
-        ensures { result ≡ kind_of (request_of self.now) }
+    // The kind, whose number is the kind byte.
+    pub fn kind(&self) -> Kind
+        ensures { kind_number result ≡ kind_of (request_of self.now) }
     {
         match self {
-            Message::Apply { .. } => 1,
-            Message::Poll { .. } => 2,
-            Message::GiveUp { .. } => 3,
-            Message::Leave { .. } => 4,
-            Message::Look { .. } => 5,
-            Message::Publish { .. } => 6,
+            Message::Apply { .. } => Kind::Apply,
+            Message::Poll { .. } => Kind::Poll,
+            Message::GiveUp { .. } => Kind::GiveUp,
+            Message::Leave { .. } => Kind::Leave,
+            Message::Look { .. } => Kind::Look,
+            Message::Publish { .. } => Kind::Publish,
         }
     }
 }
 
-// The message of a body.
+// The message of a body. It asks first for the kind, and then for the kind's length.
+#[tactic(auto, unfolding(crate::specs::Messages::message_of))]
 pub(crate) fn decode(body: &[u8]) -> Result<Message<'_>, LineFault>
     ensures answer { request_in result ≡ message_of body.now }
     ensures short { Short result }
 {
-    decode_here(body)
-}
-
-// The same. Its contract is open, and the other's is shut, so that callers need not look inside.
-fn decode_here(body: &[u8]) -> Result<Message<'_>, LineFault>
-    ensures answer { request_in result ≡ message_at body.now }
-    ensures short { Short result }
-{
-    match body {
-        [1, seat] => Ok(Message::Apply {
+    let [first, fields @ ..] = body else {
+        return Err(LineFault::Kind);
+    };
+    match (Kind::try_from(*first)?, fields) {
+        (Kind::Apply, [seat]) => Ok(Message::Apply {
             seat: SeatId(*seat),
         }),
-        [2, seat, hi, lo, coin] => Ok(Message::Poll {
+        (Kind::Poll, [seat, hi, lo, coin]) => Ok(Message::Poll {
             seat: SeatId(*seat),
             passage: joined(*hi, *lo),
             coin: *coin,
         }),
-        [3, seat, hi, lo] => Ok(Message::GiveUp {
+        (Kind::GiveUp, [seat, hi, lo]) => Ok(Message::GiveUp {
             seat: SeatId(*seat),
             passage: joined(*hi, *lo),
         }),
-        [4, seat, hi, lo] => Ok(Message::Leave {
+        (Kind::Leave, [seat, hi, lo]) => Ok(Message::Leave {
             seat: SeatId(*seat),
             passage: joined(*hi, *lo),
         }),
-        [5, seat] => Ok(Message::Look {
+        (Kind::Look, [seat]) => Ok(Message::Look {
             seat: SeatId(*seat),
         }),
-        [6, seat, hi, lo, text @ ..] if 1 <= text.len() && text.len() <= 80 => {
+        (Kind::Publish, [seat, hi, lo, text @ ..]) if matches!(text.len(), 1..=80) => {
             Ok(Message::Publish {
                 seat: SeatId(*seat),
                 passage: joined(*hi, *lo),
                 text,
             })
         }
-        [kind @ 1..=6, ..] => Err(LineFault::Length { kind: *kind }),
-        _ => Err(LineFault::Kind),
+        _ => Err(LineFault::Length { kind: *first }),
     }
 }
 

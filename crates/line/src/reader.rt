@@ -1,38 +1,36 @@
-ghost use Rattle.std.specs.Prelude.{◌≡◌, ◌+◌, ◌^◌, ◌<◌, ◌≤◌, length, drop, if◌then◌else◌};
-ghost use Rattle.line.specs.Reader.{header_of, next_at, next_of, place_at, place_of, request_next, ShortNext};
+ghost use Rattle.std.specs.Prelude.{◌≡◌, ◌≤◌, length, take, drop, unwrap_or, IfOk, IfSome};
+ghost use Rattle.line.specs.Reader.{ShortNext, header_of, missing, next_of, place_of, request_next, size_found};
+ghost use Rattle.line.specs.Streams.{waits_for};
 
 use crate::fault::LineFault;
 use crate::messages::{Message, decode};
 
-// The reader's place in the input.
+// The reader's place in the input. It stands apart from the input, which grows and is cut between two calls.
 #[derive(Clone, Copy)]
 pub struct Cursor {
     pub at: usize,
 }
 
-// Puts the reader's place back to the message's first byte when it goes, unless the message was accepted.
+// Puts the reader's place back when it goes, unless the message was accepted.
 pub(crate) struct Guard<'a> {
     place: &'a mut Cursor,
-    start: usize,
-    accepted: bool,
+    // the message's first byte, none once the message is accepted
+    back: Option<usize>,
 }
 
 impl Drop for Guard<'_> {
     fn drop(self)
-        ensures { self.exit.0.now.at ≡ (if self.entry.accepted then self.entry.place.now.at else self.entry.start) }
+        ensures { self.exit.0.now.at ≡ unwrap_or self.entry.back self.entry.place.now.at }
     {
-        if !self.accepted {
-            self.place.at = self.start;
+        let Guard { place, back } = self;
+        if let Some(start) = back {
+            place.at = start;
         }
-        let Guard {
-            place: _,
-            start: _,
-            accepted: _,
-        } = self;
     }
 }
 
 // Reads the next message, or None at the end. The place goes past a message that is accepted, and else stays.
+#[tactic(auto, using(std::proofs::lemmas::List::take_rest), unfolding(crate::specs::Reader::next_of, crate::specs::Reader::place_of))]
 pub fn next_message<'a>(
     place: &mut Cursor,
     input: &'a [u8],
@@ -45,47 +43,31 @@ pub fn next_message<'a>(
     if start >= input.len() {
         return Ok(None);
     }
-    next_in(place, &input[start..])
-}
-
-// Reads the message that the rest of the input begins with.
-fn next_in<'a>(place: &mut Cursor, rest: &'a [u8]) -> Result<Option<Message<'a>>, LineFault>
-    requires { place.old.at + length rest.now < 2 ^ 64 }
-    ensures answer { request_next result ≡ next_at rest.now }
-    ensures place { place.new.at ≡ place_at place.old.at rest.now }
-    ensures short { ShortNext result }
-{
-    if rest.is_empty() {
-        return Ok(None);
-    }
-    let start = place.at;
     let mut guard = Guard {
         place,
-        start,
-        accepted: false,
+        back: Some(start),
     };
-    let size = header(rest)?;
+    let body = body_in(&input[start..])?.ok_or(LineFault::Frame)?;
     guard.place.at = start + 3;
-    let message = decode(&rest[3..3 + size])?;
-    guard.place.at = start + 3 + size;
-    guard.accepted = true;
+    let message = decode(body)?;
+    guard.place.at = start + 3 + body.len();
+    guard.back = None;
     Ok(Some(message))
 }
 
-// How long the body is that a header announces.
-fn header(rest: &[u8]) -> Result<usize, LineFault>
+// The body that the header at the front of some bytes announces, or None where bytes of it are missing.
+pub(crate) fn body_in(rest: &[u8]) -> Result<Option<&[u8]>, LineFault>
     requires { 1 ≤ length rest.now }
-    ensures { result ≡ header_of rest.now }
+    ensures header { size_found result ≡ header_of rest.now }
+    ensures waits { missing result ≡ waits_for rest.now }
+    ensures body { IfOk result (λ found. IfSome found (λ body. body.now ≡ take (length body.now) (drop 3 rest.now))) }
 {
-    if rest[0] != 1 {
-        return Err(LineFault::Version);
+    match rest {
+        [1, hi, lo, body @ ..] => match usize::from(u16::from_be_bytes([*hi, *lo])) {
+            size @ 1..=84 => Ok(body.get(..size)),
+            _ => Err(LineFault::Frame),
+        },
+        [1, ..] => Ok(None),
+        _ => Err(LineFault::Version),
     }
-    let [_, hi, lo, body @ ..] = rest else {
-        return Err(LineFault::Frame);
-    };
-    let size = usize::from(*hi) * 256 + usize::from(*lo);
-    if size < 1 || size > 84 || body.len() < size {
-        return Err(LineFault::Frame);
-    }
-    Ok(size)
 }

@@ -1,11 +1,19 @@
-ghost use Rattle.std.specs.Prelude.{◌≡◌, ◌+◌, ◌≤◌, ◌∷◌, ◌++◌, length, take, drop, Ok};
+ghost use Rattle.std.specs.Prelude.{◌≡◌, ◌+◌, ◌≤◌, ◌++◌, length, Ok};
 ghost use Rattle.line.specs.Faults.{told_to};
-ghost use Rattle.line.specs.Replies.{Written, content_of, content_size, onto, frame_of, refused_body, reply_body};
+ghost use Rattle.line.specs.Kinds.{kind_byte, kind_number};
+ghost use Rattle.line.specs.Replies.{Written, content_of, content_size, refused_body, reply_body};
 
 use crate::fault::LineFault;
+use crate::kinds::Kind;
 use layout::Passage;
 use lock::View;
 use seats::State;
+
+// How long the longest reply is: that to a publish of 80 bytes.
+pub(crate) const LONGEST: usize = 86;
+
+// Memory for one reply. It is the caller's: the line allocates nothing.
+pub(crate) type Room = [u8; LONGEST];
 
 // What an accepted call answers on the line.
 #[derive(Clone, Copy)]
@@ -17,72 +25,53 @@ pub(crate) enum Reply<'a> {
 }
 
 // Writes the reply to an accepted message of a kind at the front of the memory. Answers how many bytes it has.
-pub(crate) fn encode(kind: u8, reply: Reply<'_>, out: &mut [u8]) -> usize
-    requires room { 86 ≤ length out.old }
-    requires short { content_size reply ≤ 81 }
-    ensures { Written (reply_body kind (Ok (content_of reply.entry))) out.old result out.new }
+pub(crate) fn encode(kind: Kind, reply: Reply<'_>, room: &mut Room) -> usize
+    requires { content_size reply ≤ 81 }
+    ensures { Written (reply_body (kind_number kind) (Ok (content_of reply.entry))) room.old result room.new }
 {
+    let kind = u8::from(kind);
     match reply {
         Reply::Applied(passage) => {
             let [hi, lo] = passage.0.to_be_bytes();
-            put(out, 0, &[1, 0, 4, kind, 0, hi, lo]);
-            7
+            put_frame(&[kind, 0, hi, lo], &[], room)
         }
-        Reply::Stated(state) => {
-            put(out, 0, &[1, 0, 3, kind, 0, state.number()]);
-            6
-        }
-        Reply::Looked(view) => {
-            put(out, 0, &[1, 0, 4, kind, 0, view.state.number(), view.top]);
-            7
-        }
-        Reply::Published(state, text) => {
-            put_text(out, kind, state.number(), text);
-            6 + text.len()
-        }
+        Reply::Stated(state) => put_frame(&[kind, 0, state.number()], &[], room),
+        Reply::Looked(view) => put_frame(&[kind, 0, view.state.number(), view.top], &[], room),
+        Reply::Published(state, text) => put_frame(&[kind, 0, state.number()], text, room),
     }
 }
 
-// Writes the refusal of a message of a kind at the front of the memory. Answers how many bytes it has.
-pub(crate) fn refuse(kind: u8, fault: LineFault, out: &mut [u8]) -> usize
-    requires { 86 ≤ length out.old }
-    ensures { Written (refused_body (told_to kind fault)) out.old result out.new }
+// Writes the refusal of a message at the front of the memory; the kind is none where no message could be read. Answers
+// how many bytes the refusal has.
+pub(crate) fn refuse(kind: Option<Kind>, fault: LineFault, room: &mut Room) -> usize
+    ensures { Written (refused_body (told_to (kind_byte kind) fault)) room.old result room.new }
 {
+    let kind = kind.map_or(0, u8::from);
     let told = fault.refusal(kind);
     let refusal = told.refusal;
     let [hi, lo] = refusal.cell.to_be_bytes();
-    put(
-        out,
-        0,
-        &[
-            1,
-            0,
-            6,
-            told.kind,
-            refusal.number,
-            refusal.seat.0,
-            refusal.height,
-            hi,
-            lo,
-        ],
-    );
-    9
+    let body = [
+        told.kind,
+        refusal.number,
+        refusal.seat.0,
+        refusal.height,
+        hi,
+        lo,
+    ];
+    put_frame(&body, &[], room)
 }
 
-// Writes a reply with a text.
-fn put_text(out: &mut [u8], kind: u8, state: u8, text: &[u8])
-    requires short { length text.now ≤ 80 }
-    requires room { 86 ≤ length out.old }
-    ensures { out.new ≡ onto (frame_of (kind ∷ 0 ∷ state ∷ text.now)) out.old }
+// Writes a frame, whose body is a head and a text, at the front of the memory. Answers how many bytes it has.
+fn put_frame(head: &[u8], text: &[u8], room: &mut Room) -> usize
+    requires { length head.now + length text.now ≤ 83 }
+    ensures { Written (head.now ++ text.now) room.old result room.new }
 {
-    put(out, 0, &[1, 0, (3 + text.len()) as u8, kind, 0, state]);
-    put(out, 6, text);
-}
-
-// Writes some bytes at a position.
-fn put(out: &mut [u8], at: usize, bytes: &[u8])
-    requires { at + length bytes.now ≤ length out.old }
-    ensures { out.new ≡ take at out.old ++ (bytes.now ++ drop (at + length bytes.now) out.old) }
-{
-    out[at..at + bytes.len()].copy_from_slice(bytes);
+    let size = head.len() + text.len();
+    let [hi, lo] = (size as u16).to_be_bytes();
+    let (header, body) = room.split_at_mut(3);
+    header.copy_from_slice(&[1, hi, lo]);
+    let (front, rest) = body.split_at_mut(head.len());
+    front.copy_from_slice(head);
+    rest[..text.len()].copy_from_slice(text);
+    3 + size
 }

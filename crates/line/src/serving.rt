@@ -12,6 +12,7 @@ use seats::Seat;
 use store::Store;
 
 // Makes the call that a message asks for.
+#[tactic(auto, unfolding(crate::specs::Serving::served))]
 pub(crate) fn serve<'a, S: Store>(
     gate: &mut BoxRecord,
     store: &mut S,

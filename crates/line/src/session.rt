@@ -1,4 +1,4 @@
-ghost use Rattle.std.specs.Prelude.{◌≤◌, length};
+ghost use Rattle.std.specs.Prelude.{◌≤◌};
 ghost use Rattle.lock.specs.States.{state_of};
 ghost use Rattle.line.specs.Messages.{request_of, text_size};
 ghost use Rattle.line.specs.Serving.{served};
@@ -7,7 +7,7 @@ ghost use Rattle.line.specs.Sessions.{Answers, Responds, answered};
 use crate::fault::LineFault;
 use crate::messages::Message;
 use crate::reader::{Cursor, next_message};
-use crate::replies::{encode, refuse};
+use crate::replies::{LONGEST, Room, encode, refuse};
 use crate::serving::serve;
 use layout::BoxRecord;
 use seats::Seat;
@@ -25,6 +25,7 @@ pub enum Answered {
 }
 
 // Reads the next message, has the box serve it, and writes the reply at the front of the reply memory.
+#[tactic(auto, unfolding(crate::specs::Sessions::answered))]
 pub fn answer<S: Store>(
     gate: &mut BoxRecord,
     store: &mut S,
@@ -35,37 +36,31 @@ pub fn answer<S: Store>(
 ) -> Result<Answered, LineFault>
     ensures { Answers (answered (state_of gate.old table.old (S.words store.old)) place.old.at input.now reply.old) result (state_of gate.new table.new (S.words store.new)) place.new.at reply.new }
 {
-    if reply.len() < 86 {
+    let Some(room) = reply.first_chunk_mut::<LONGEST>() else {
         return Err(LineFault::ReplyRoom);
-    }
+    };
     match next_message(place, input) {
         Ok(None) => Ok(Answered::End),
-        Ok(Some(message)) => {
-            let size = respond(gate, store, table, message, reply);
-            Ok(Answered::Replied(size))
-        }
-        Err(fault) => {
-            let size = refuse(0, fault, reply);
-            Ok(Answered::Over(size))
-        }
+        Ok(Some(message)) => Ok(Answered::Replied(respond(gate, store, table, message, room))),
+        Err(fault) => Ok(Answered::Over(refuse(None, fault, room))),
     }
 }
 
 // Has the box serve a message, and writes the reply. Answers how many bytes it has.
+#[tactic(auto, using(crate::proofs::ReplyLaws::reply_fits))]
 fn respond<S: Store>(
     gate: &mut BoxRecord,
     store: &mut S,
     table: &mut [Seat],
     message: Message<'_>,
-    reply: &mut [u8],
+    room: &mut Room,
 ) -> usize
-    requires short { text_size message ≤ 80 }
-    requires room { 86 ≤ length reply.old }
-    ensures { Responds (request_of message.entry) (served (state_of gate.old table.old (S.words store.old)) (request_of message.entry)) reply.old result (state_of gate.new table.new (S.words store.new)) reply.new }
+    requires { text_size message ≤ 80 }
+    ensures { Responds (request_of message.entry) (served (state_of gate.old table.old (S.words store.old)) (request_of message.entry)) room.old result (state_of gate.new table.new (S.words store.new)) room.new }
 {
     let kind = message.kind();
     match serve(gate, store, table, message) {
-        Ok(accepted) => encode(kind, accepted, reply),
-        Err(fault) => refuse(kind, fault, reply),
+        Ok(accepted) => encode(kind, accepted, room),
+        Err(fault) => refuse(Some(kind), fault, room),
     }
 }

@@ -4,7 +4,7 @@ ghost use Rattle.line.specs.Courses.{Cuts};
 ghost use Rattle.line.specs.Pauses.{Left};
 ghost use Rattle.line.specs.Streams.{Turns, streamed, turn_of, turned, waits_for};
 
-use crate::reader::Cursor;
+use crate::reader::{Cursor, body_in};
 use crate::session::{Answered, answer};
 use layout::BoxRecord;
 use seats::Seat;
@@ -45,27 +45,24 @@ pub fn answer_all<S: Store>(
     ensures left { Left ended input.now place.old.at replies.old result.pause result.written place.new.at replies.new }
 {
     let mut written = 0;
-    for turn in 0..input.len() + 1 {
-        let step = advance(gate, store, table, place, input, ended, replies, written);
-        written = step.written;
-        if let Some(pause) = step.pause {
+    loop {
+        if let Some(pause) = advance(
+            gate,
+            store,
+            table,
+            place,
+            input,
+            ended,
+            replies,
+            &mut written,
+        ) {
             return Progress { written, pause };
         }
     }
-    Progress {
-        written,
-        pause: Pause::Input,
-    }
 }
 
-// What one turn comes to: how many reply bytes there are, and why it stops, if it does.
-#[derive(Clone, Copy)]
-pub(crate) struct Step {
-    written: usize,
-    pause: Option<Pause>,
-}
-
-// Answers one message, if there is a whole one and room for the reply.
+// Answers one message, if there is a whole one and room for the reply. Answers why it stops, if it does.
+// Memory and count stay two: a struct of both saves two clauses, and needs one on its reference and longer words in all.
 fn advance<S: Store>(
     gate: &mut BoxRecord,
     store: &mut S,
@@ -74,35 +71,26 @@ fn advance<S: Store>(
     input: &[u8],
     ended: bool,
     replies: &mut [u8],
-    written: usize,
-) -> Step
-    requires { written ≤ length replies.old }
-    ensures turns { Turns (turned ended input.now (turn_of written (state_of gate.old table.old (S.words store.old)) place.old.at replies.old)) result.pause result.written (state_of gate.new table.new (S.words store.new)) place.new.at replies.new }
-    ensures within { result.written ≤ length replies.new }
+    written: &mut usize,
+) -> Option<Pause>
+    requires { written.old ≤ length replies.old }
+    ensures turns { Turns (turned ended input.now (turn_of written.old (state_of gate.old table.old (S.words store.old)) place.old.at replies.old)) result written.new (state_of gate.new table.new (S.words store.new)) place.new.at replies.new }
+    ensures within { written.new ≤ length replies.new }
 {
     if held_back(place, input, ended) {
-        return Step {
-            written,
-            pause: Some(Pause::Input),
-        };
+        return Some(Pause::Input);
     }
-    match answer(gate, store, table, place, input, &mut replies[written..]) {
-        Ok(Answered::Replied(size)) => Step {
-            written: written + size,
-            pause: None,
-        },
-        Ok(Answered::Over(size)) => Step {
-            written: written + size,
-            pause: Some(Pause::Done),
-        },
-        Ok(Answered::End) => Step {
-            written,
-            pause: Some(Pause::Input),
-        },
-        Err(_) => Step {
-            written,
-            pause: Some(Pause::Room),
-        },
+    match answer(gate, store, table, place, input, &mut replies[*written..]) {
+        Ok(Answered::Replied(size)) => {
+            *written += size;
+            None
+        }
+        Ok(Answered::Over(size)) => {
+            *written += size;
+            Some(Pause::Done)
+        }
+        Ok(Answered::End) => Some(Pause::Input),
+        Err(_) => Some(Pause::Room),
     }
 }
 
@@ -110,33 +98,13 @@ fn advance<S: Store>(
 fn held_back(place: &Cursor, input: &[u8], ended: bool) -> bool
     ensures { result ≡ (not ended && waits_for (drop place.now.at input.now)) }
 {
-    if ended {
-        return false;
-    }
-    waits(place, input)
+    !ended && waits(place, input)
 }
 
 // Whether the rest of the input is no whole message yet, and more bytes may make it one.
+#[tactic(auto, using(std::proofs::lemmas::List::take_rest))]
 pub fn waits(place: &Cursor, input: &[u8]) -> bool
     ensures { result ≡ waits_for (drop place.now.at input.now) }
 {
-    if place.at >= input.len() {
-        return true;
-    }
-    begins(&input[place.at..])
-}
-
-// Whether some bytes are the beginning of a message, and not all of it.
-fn begins(rest: &[u8]) -> bool
-    requires { 1 ≤ length rest.now }
-    ensures { result ≡ waits_for rest.now }
-{
-    if rest[0] != 1 {
-        return false;
-    }
-    let [_, hi, lo, body @ ..] = rest else {
-        return true;
-    };
-    let size = usize::from(*hi) * 256 + usize::from(*lo);
-    1 <= size && size <= 84 && body.len() < size
+    place.at >= input.len() || matches!(body_in(&input[place.at..]), Ok(None))
 }

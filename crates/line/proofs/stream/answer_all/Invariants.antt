@@ -1,8 +1,14 @@
-use Rattle.std.proofs.Common.{◌≡◌, suc, ◌-◌, ◌≤◌, length}
+use Rattle.std.proofs.Common.{◌≡◌, suc, ◌≤◌, length, drop}
 use Rattle.lock.specs.States.{state_of}
 use Rattle.line.specs.Streams.{streamed, turn_of}
 use Rattle.line.proofs.stream.answer_all.Given as goal
 
-abbrev pub invariant-loop-turn : goal.invariant-loop-turn
-invariant-loop-turn g l =
-    (streamed (suc (length l.input) - l.turn) l.ended l.input (turn_of l.written (state_of l.gate l.table (g.S.Store.words l.store)) l.place.at l.replies) ≡ streamed (suc (length l.input)) l.ended l.input (turn_of 0 (state_of l.initial.gate l.initial.table (g.S.Store.words l.initial.store)) l.initial.place.at l.initial.replies)) × (l.written ≤ length l.replies)
+abbrev pub invariant-loop-pause : goal.invariant-loop-pause
+invariant-loop-pause g l =
+    record {
+      turns : streamed (suc (length l.input)) l.ended l.input (turn_of l.written (state_of l.gate l.table (g.S.Store.words l.store)) l.place.at l.replies) ≡ streamed (suc (length l.input)) l.ended l.input (turn_of 0 (state_of l.initial.gate l.initial.table (g.S.Store.words l.initial.store)) l.initial.place.at l.initial.replies);
+      within : l.written ≤ length l.replies;
+    }
+
+abbrev pub decreases-loop-pause : goal.decreases-loop-pause
+decreases-loop-pause g l = length (drop l.place.at l.input)
