@@ -1,5 +1,5 @@
 ghost use Rattle.std.specs.Prelude.{◌≤◌};
-ghost use Rattle.lock.specs.States.{state_of};
+ghost use Rattle.lock.specs.Locks.{SameLoans, state_in};
 ghost use Rattle.line.specs.Messages.{request_of, text_size};
 ghost use Rattle.line.specs.Serving.{served};
 ghost use Rattle.line.specs.Sessions.{Answers, Responds, answered};
@@ -9,8 +9,7 @@ use crate::messages::Message;
 use crate::reader::{Cursor, next_message};
 use crate::replies::{LONGEST, Room, encode, refuse};
 use crate::serving::serve;
-use layout::BoxRecord;
-use seats::Seat;
+use lock::Lock;
 use store::Store;
 
 // What became of the next message.
@@ -27,39 +26,33 @@ pub enum Answered {
 // Reads the next message, has the box serve it, and writes the reply at the front of the reply memory.
 #[tactic(auto, unfolding(crate::specs::Sessions::answered))]
 pub fn answer<S: Store>(
-    gate: &mut BoxRecord,
-    store: &mut S,
-    table: &mut [Seat],
+    lock: &mut Lock<'_, S>,
     place: &mut Cursor,
     input: &[u8],
     reply: &mut [u8],
 ) -> Result<Answered, LineFault>
-    ensures { Answers (answered (state_of gate.old table.old (S.words store.old)) place.old.at input.now reply.old) result (state_of gate.new table.new (S.words store.new)) place.new.at reply.new }
+    ensures answers { Answers (answered (state_in S.words lock.old) place.old.at input.now reply.old) result (state_in S.words lock.new) place.new.at reply.new }
+    ensures loans { SameLoans lock.old lock.new }
 {
     let Some(room) = reply.first_chunk_mut::<LONGEST>() else {
         return Err(LineFault::ReplyRoom);
     };
     match next_message(place, input) {
         Ok(None) => Ok(Answered::End),
-        Ok(Some(message)) => Ok(Answered::Replied(respond(gate, store, table, message, room))),
+        Ok(Some(message)) => Ok(Answered::Replied(respond(lock, message, room))),
         Err(fault) => Ok(Answered::Over(refuse(None, fault, room))),
     }
 }
 
 // Has the box serve a message, and writes the reply. Answers how many bytes it has.
 #[tactic(auto, using(crate::proofs::ReplyLaws::reply_fits))]
-fn respond<S: Store>(
-    gate: &mut BoxRecord,
-    store: &mut S,
-    table: &mut [Seat],
-    message: Message<'_>,
-    room: &mut Room,
-) -> usize
+fn respond<S: Store>(lock: &mut Lock<'_, S>, message: Message<'_>, room: &mut Room) -> usize
     requires { text_size message ≤ 80 }
-    ensures { Responds (request_of message.entry) (served (state_of gate.old table.old (S.words store.old)) (request_of message.entry)) room.old result (state_of gate.new table.new (S.words store.new)) room.new }
+    ensures responds { Responds (request_of message.entry) (served (state_in S.words lock.old) (request_of message.entry)) room.old result (state_in S.words lock.new) room.new }
+    ensures loans { SameLoans lock.old lock.new }
 {
     let kind = message.kind();
-    match serve(gate, store, table, message) {
+    match serve(lock, message) {
         Ok(accepted) => encode(kind, accepted, room),
         Err(fault) => refuse(Some(kind), fault, room),
     }

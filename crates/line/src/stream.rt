@@ -1,13 +1,12 @@
 ghost use Rattle.std.specs.Prelude.{◌≡◌, suc, ◌≤◌, not, ◌&&◌, length, drop, Some};
-ghost use Rattle.lock.specs.States.{state_of};
+ghost use Rattle.lock.specs.Locks.{SameLoans, state_in};
 ghost use Rattle.line.specs.Courses.{Cuts};
 ghost use Rattle.line.specs.Pauses.{Left};
 ghost use Rattle.line.specs.Streams.{Turns, streamed, turn_of, turned, waits_for};
 
 use crate::reader::{Cursor, body_in};
 use crate::session::{Answered, answer};
-use layout::BoxRecord;
-use seats::Seat;
+use lock::Lock;
 use store::Store;
 
 // Why the answering stopped.
@@ -32,30 +31,20 @@ pub struct Progress {
 // Answers every whole message of the input from the reader's place on, and writes the replies one after another. A
 // message of which bytes are missing is answered only when the input has ended.
 pub fn answer_all<S: Store>(
-    gate: &mut BoxRecord,
-    store: &mut S,
-    table: &mut [Seat],
+    lock: &mut Lock<'_, S>,
     place: &mut Cursor,
     input: &[u8],
     ended: bool,
     replies: &mut [u8],
 ) -> Progress
-    ensures turns { Turns (streamed (suc (length input.now)) ended input.now (turn_of 0 (state_of gate.old table.old (S.words store.old)) place.old.at replies.old)) (Some result.pause) result.written (state_of gate.new table.new (S.words store.new)) place.new.at replies.new }
-    ensures cut { Cuts ended input.now (state_of gate.old table.old (S.words store.old)) place.old.at result.pause result.written (state_of gate.new table.new (S.words store.new)) place.new.at replies.new }
+    ensures turns { Turns (streamed (suc (length input.now)) ended input.now (turn_of 0 (state_in S.words lock.old) place.old.at replies.old)) (Some result.pause) result.written (state_in S.words lock.new) place.new.at replies.new }
+    ensures cut { Cuts ended input.now (state_in S.words lock.old) place.old.at result.pause result.written (state_in S.words lock.new) place.new.at replies.new }
     ensures left { Left ended input.now place.old.at replies.old result.pause result.written place.new.at replies.new }
+    ensures loans { SameLoans lock.old lock.new }
 {
     let mut written = 0;
     loop {
-        if let Some(pause) = advance(
-            gate,
-            store,
-            table,
-            place,
-            input,
-            ended,
-            replies,
-            &mut written,
-        ) {
+        if let Some(pause) = advance(lock, place, input, ended, replies, &mut written) {
             return Progress { written, pause };
         }
     }
@@ -64,9 +53,7 @@ pub fn answer_all<S: Store>(
 // Answers one message, if there is a whole one and room for the reply. Answers why it stops, if it does.
 // Memory and count stay two: a struct of both saves two clauses, and needs one on its reference and longer words in all.
 fn advance<S: Store>(
-    gate: &mut BoxRecord,
-    store: &mut S,
-    table: &mut [Seat],
+    lock: &mut Lock<'_, S>,
     place: &mut Cursor,
     input: &[u8],
     ended: bool,
@@ -74,13 +61,14 @@ fn advance<S: Store>(
     written: &mut usize,
 ) -> Option<Pause>
     requires { written.old ≤ length replies.old }
-    ensures turns { Turns (turned ended input.now (turn_of written.old (state_of gate.old table.old (S.words store.old)) place.old.at replies.old)) result written.new (state_of gate.new table.new (S.words store.new)) place.new.at replies.new }
+    ensures turns { Turns (turned ended input.now (turn_of written.old (state_in S.words lock.old) place.old.at replies.old)) result written.new (state_in S.words lock.new) place.new.at replies.new }
     ensures within { written.new ≤ length replies.new }
+    ensures loans { SameLoans lock.old lock.new }
 {
     if held_back(place, input, ended) {
         return Some(Pause::Input);
     }
-    match answer(gate, store, table, place, input, &mut replies[*written..]) {
+    match answer(lock, place, input, &mut replies[*written..]) {
         Ok(Answered::Replied(size)) => {
             *written += size;
             None

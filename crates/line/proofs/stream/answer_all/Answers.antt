@@ -1,4 +1,5 @@
-use Rattle.lock.specs.States.{state_of}
+use Rattle.std.proofs.Common.{rules}
+use Rattle.lock.specs.Locks.{state_in}
 use Rattle.line.proofs.CutLaws.{cuts}
 use Rattle.line.proofs.LoopLaws.{goes_on_lem, nearer, stops}
 use Rattle.line.proofs.PauseLaws.{stops_left}
@@ -7,13 +8,14 @@ use Rattle.line.proofs.stream.answer_all.Goals as goal
 pub returns-in-Some : goal.returns-in-Some
 returns-in-Some g c =
     let n = c.advance.new in
-    let b = state_of n.gate n.table (g.S.Store.words n.store) in
+    let b = state_in g.S.Store.words n.lock in
     let t =
     stops _ c.args.input.now _ _ c.loop-pause.invariant.within c.loop-pause.invariant.turns n.written b n.place.at n.replies c.in-Some.pause c.in-Some.ensures.turns in
     record {
       turns = t;
       cut = cuts _ c.args.input.now _ c.args.place.now.at c.args.replies.now _ _ _ _ _ t;
       left = stops_left _ c.args.input.now _ c.args.place.now.at c.args.replies.now _ _ _ _ _ t;
+      loans = search rules;
     }
 
 pub loop-pause-smaller : goal.loop-pause-smaller
@@ -25,4 +27,5 @@ loop-pause-preserved g c =
     record {
       turns = goes_on_lem _ c.args.input.now _ _ c.loop-pause.invariant.within c.loop-pause.invariant.turns _ _ _ _ c.in_default.ensures.turns;
       within = c.advance.ensures.within;
+      loans = search rules;
     }
