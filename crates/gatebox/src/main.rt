@@ -2,9 +2,8 @@
 #![tactic(auto)]
 
 use anyhow::anyhow;
-use layout::BoxRecord;
 use line::{Cursor, Pause, answer_all};
-use lock::open;
+use lock::{Lock, open};
 use seats::Seat;
 use std::io::{Read, Write};
 use store::{Memory, Store};
@@ -20,35 +19,27 @@ fn run(rt: &HostRuntime) -> anyhow::Result<()> {
     let mut cells = vec![in rt.alloc(); 0; 252]?;
     let mut table = vec![in rt.alloc(); Seat::away(); 64]?;
     let mut store = Memory::new(cells.as_mut_slice());
-    let Ok(mut gate) = open(4, &mut store, table.as_mut_slice()) else {
-        return Err(anyhow!("the box was not opened"));
+    let table = table.as_mut_slice();
+    let mut record = open(4, &mut store, table).map_err(|_| anyhow!("the box was not opened"))?;
+    let mut lock = Lock {
+        record: &mut record,
+        store: &mut store,
+        table,
     };
-    serve(rt, &mut gate, &mut store, table.as_mut_slice())
+    serve(rt, &mut lock)
 }
 
 // Reads block after block, and answers every whole message before it waits for more.
-fn serve<S: Store>(
-    rt: &HostRuntime,
-    gate: &mut BoxRecord,
-    store: &mut S,
-    table: &mut [Seat],
-) -> anyhow::Result<()> {
+fn serve<S: Store>(rt: &HostRuntime, lock: &mut Lock<'_, S>) -> anyhow::Result<()> {
     let mut block = vec![in rt.alloc(); 0; BLOCK]?;
     let mut replies = vec![in rt.alloc(); 0; BLOCK]?;
     let mut input: Vec<u8> = Vec::new(rt.alloc());
+    // a count and no `loop`: input has no end that a proof could know, and a loop without one would have to wait
     for _ in 0..u64::MAX {
         let count = rt.stdin().read(block.as_mut_slice())?;
-        input.extend_from_slice(&block.as_slice()[0..count])?;
+        input.extend_from_slice(&block.as_slice()[..count])?;
         let ended = count == 0;
-        let over = reply(
-            rt,
-            gate,
-            store,
-            table,
-            &mut input,
-            ended,
-            replies.as_mut_slice(),
-        )?;
+        let over = reply(rt, lock, &mut input, ended, replies.as_mut_slice())?;
         if over || ended {
             return Ok(());
         }
@@ -59,25 +50,16 @@ fn serve<S: Store>(
 // Answers every whole message of the input, and keeps the rest. Answers whether the session is over.
 fn reply<S: Store>(
     rt: &HostRuntime,
-    gate: &mut BoxRecord,
-    store: &mut S,
-    table: &mut [Seat],
+    lock: &mut Lock<'_, S>,
     input: &mut Vec<u8>,
     ended: bool,
     replies: &mut [u8],
 ) -> anyhow::Result<bool> {
     let mut place = Cursor { at: 0 };
     for _ in 0..u64::MAX {
-        match fill(
-            rt,
-            gate,
-            store,
-            table,
-            &mut place,
-            input.as_slice(),
-            ended,
-            replies,
-        )? {
+        let progress = answer_all(lock, &mut place, input.as_slice(), ended, replies);
+        rt.stdout().write_all(&replies[..progress.written])?;
+        match progress.pause {
             Pause::Room => {}
             Pause::Input => break,
             Pause::Done => return Ok(true),
@@ -86,21 +68,4 @@ fn reply<S: Store>(
     let at = place.at.min(input.len());
     *input = input.split_off(at)?;
     Ok(false)
-}
-
-// Answers as many messages as there is room for their replies, and writes these out.
-fn fill<S: Store>(
-    rt: &HostRuntime,
-    gate: &mut BoxRecord,
-    store: &mut S,
-    table: &mut [Seat],
-    place: &mut Cursor,
-    input: &[u8],
-    ended: bool,
-    replies: &mut [u8],
-) -> anyhow::Result<Pause> {
-    let progress = answer_all(gate, store, table, place, input, ended, replies);
-    let written = progress.written;
-    rt.stdout().write_all(&replies[0..written])?;
-    Ok(progress.pause)
 }

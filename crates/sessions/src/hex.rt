@@ -31,10 +31,10 @@ fn joined(high: u8, low: u8) -> u8 {
     (high % 16) * 16 + low % 16
 }
 
-// Prints replies, one a line, up to a length.
-pub fn print(rt: &HostRuntime, replies: &[u8], length: usize) -> anyhow::Result<()> {
+// Prints replies, one a line.
+pub fn print(rt: &HostRuntime, replies: &[u8]) -> anyhow::Result<()> {
     let mut left = 0;
-    for (k, b) in replies.iter().take(length).enumerate() {
+    for (k, b) in replies.iter().enumerate() {
         if left == 0 {
             let low = replies.get(k.saturating_add(2)).copied().unwrap_or(0);
             left = usize::from(low) + 3;

@@ -8,11 +8,11 @@ mod spent;
 
 use anyhow::anyhow;
 use line::{Cursor, Pause, answer_all};
-use lock::open;
+use lock::{Lock, open};
 use seats::Seat;
 use spent::spent_numbers;
 use std::io::{BufRead, BufReader};
-use store::{Memory, Store};
+use store::Memory;
 
 // Room for all replies of a session.
 const ROOM: usize = 65536;
@@ -43,21 +43,17 @@ fn play(rt: &HostRuntime, input: &[u8]) -> anyhow::Result<()> {
     let mut cells = vec![in rt.alloc(); 0; 252]?;
     let mut table = vec![in rt.alloc(); Seat::away(); 64]?;
     let mut store = Memory::new(cells.as_mut_slice());
-    let Ok(mut gate) = open(4, &mut store, table.as_mut_slice()) else {
-        return Err(anyhow!("the box was not opened"));
+    let table = table.as_mut_slice();
+    let mut record = open(4, &mut store, table).map_err(|_| anyhow!("the box was not opened"))?;
+    let mut lock = Lock {
+        record: &mut record,
+        store: &mut store,
+        table,
     };
     let mut replies = vec![in rt.alloc(); 0; ROOM]?;
     let mut place = Cursor { at: 0 };
-    let progress = answer_all(
-        &mut gate,
-        &mut store,
-        table.as_mut_slice(),
-        &mut place,
-        input,
-        true,
-        replies.as_mut_slice(),
-    );
-    hex::print(rt, replies.as_slice(), progress.written)?;
+    let progress = answer_all(&mut lock, &mut place, input, true, replies.as_mut_slice());
+    hex::print(rt, &replies.as_slice()[..progress.written])?;
     let at = place.at;
     let end = match progress.pause {
         Pause::Input => "end of input",

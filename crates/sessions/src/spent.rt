@@ -1,9 +1,8 @@
 // The session in which the passage numbers are spent, too long to be written down.
 use crate::hex;
 use anyhow::anyhow;
-use layout::BoxRecord;
 use line::{Cursor, answer_all};
-use lock::open;
+use lock::{Lock, open};
 use seats::Seat;
 use store::{Memory, Store};
 
@@ -13,24 +12,16 @@ pub fn spent_numbers(rt: &HostRuntime) -> anyhow::Result<()> {
     let mut table = vec![in rt.alloc(); Seat::away(); 64]?;
     let mut store = Memory::new(cells.as_mut_slice());
     let table = table.as_mut_slice();
-    let Ok(mut gate) = open(4, &mut store, table) else {
-        return Err(anyhow!("the box was not opened"));
+    let mut record = open(4, &mut store, table).map_err(|_| anyhow!("the box was not opened"))?;
+    let mut lock = Lock {
+        record: &mut record,
+        store: &mut store,
+        table,
     };
     println!(rt; "# 8: numbers that are spent, after 16,383 passages")?;
-    for n in 1..16383u16 {
-        replies(&mut gate, &mut store, table, &pair(n), &mut [0; 172]);
-    }
-    let mut memory = [0; 172];
-    let last = replies(&mut gate, &mut store, table, &pair(16383), &mut memory);
-    hex::print(rt, &memory, last)?;
-    let after = replies(
-        &mut gate,
-        &mut store,
-        table,
-        &[1, 0, 2, 1, 9, 1, 0, 2, 5, 9],
-        &mut memory,
-    );
-    hex::print(rt, &memory, after)
+    spend(&mut lock);
+    tell(rt, &mut lock, &pair(16383))?;
+    tell(rt, &mut lock, &[1, 0, 2, 1, 9, 1, 0, 2, 5, 9])
 }
 
 // An application of seat 9, and the give-up of its passage.
@@ -39,22 +30,16 @@ fn pair(n: u16) -> [u8; 12] {
     [1, 0, 2, 1, 9, 1, 0, 4, 3, 9, high, low]
 }
 
-// Serves some messages. Answers how many reply bytes there are.
-fn replies<S: Store>(
-    gate: &mut BoxRecord,
-    store: &mut S,
-    table: &mut [Seat],
-    input: &[u8],
-    memory: &mut [u8],
-) -> usize {
-    answer_all(
-        gate,
-        store,
-        table,
-        &mut Cursor { at: 0 },
-        input,
-        true,
-        memory,
-    )
-    .written
+// Gives out every number but the last.
+fn spend<S: Store>(lock: &mut Lock<'_, S>) {
+    for n in 1..16383u16 {
+        answer_all(lock, &mut Cursor { at: 0 }, &pair(n), true, &mut [0; 172]);
+    }
+}
+
+// Serves some messages, and prints their replies.
+fn tell<S: Store>(rt: &HostRuntime, lock: &mut Lock<'_, S>, input: &[u8]) -> anyhow::Result<()> {
+    let mut replies = [0; 172];
+    let progress = answer_all(lock, &mut Cursor { at: 0 }, input, true, &mut replies);
+    hex::print(rt, &replies[..progress.written])
 }
