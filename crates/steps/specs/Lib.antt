@@ -8,3 +8,4 @@ pub mod Collect
 pub mod HelpRelease
 pub mod Promote
 pub mod Polls
+pub mod Goes

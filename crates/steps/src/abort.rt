@@ -1,8 +1,7 @@
 ghost use Rattle.std.specs.Prelude.{◌≡◌, ◌≤◌};
 ghost use Rattle.layout.specs.Gates.{heights_of};
-ghost use Rattle.layout.specs.Refusals.{told};
 ghost use Rattle.steps.specs.Abort.{close_apply_step, abort_pawn_step, abort_queen_step, accept_gate_step, withdraw_apply_step};
-ghost use Rattle.steps.specs.Outcomes.{Does};
+ghost use Rattle.steps.specs.Goes.{Goes};
 
 use crate::cells::Cell;
 use crate::codes::{Mark, Role, pair};
@@ -17,8 +16,7 @@ const QUEEN_GONE: u64 = 15;
 impl<S: Store> Gate<'_, S> {
     // Place 19: no longer waits for a promotion.
     pub(crate) fn close_apply(&mut self, seat: &mut Seat) -> Result<(), BoxFault>
-        ensures store { self.new.store.ghost_name ≡ self.old.store.ghost_name }
-        ensures does { Does (close_apply_step self.old.at seat.old (S.words self.old.store.now)) (told result) (S.words self.new.store.now) seat.new }
+        ensures { Goes close_apply_step self.old seat.old result self.new seat.new }
     {
         self.promote_pair(self.at.way, seat.passage)?;
         let role = self.read(Cell::Role(self.at.way))?;
@@ -34,8 +32,7 @@ impl<S: Store> Gate<'_, S> {
     pub(crate) fn abort_pawn(&mut self, seat: &mut Seat) -> Result<(), BoxFault>
         requires passage { seat.old.passage.0 ≤ 16383 }
         requires height { seat.old.height ≤ heights_of self.old.at.ways }
-        ensures store { self.new.store.ghost_name ≡ self.old.store.ghost_name }
-        ensures does { Does (abort_pawn_step self.old.at seat.old (S.words self.old.store.now)) (told result) (S.words self.new.store.now) seat.new }
+        ensures { Goes abort_pawn_step self.old seat.old result self.new seat.new }
     {
         let way = self.at.way;
         if self.change_pawns(|pawns| pawns.abort(way, seat.passage))? {
@@ -52,8 +49,7 @@ impl<S: Store> Gate<'_, S> {
 
     // Place 26: the queen tells that she has gone, unless the king has handed over already.
     pub(crate) fn abort_queen(&mut self, seat: &mut Seat) -> Result<(), BoxFault>
-        ensures store { self.new.store.ghost_name ≡ self.old.store.ghost_name }
-        ensures does { Does (abort_queen_step self.old.at seat.old (S.words self.old.store.now)) (told result) (S.words self.new.store.now) seat.new }
+        ensures { Goes abort_queen_step self.old seat.old result self.new seat.new }
     {
         if self.swap(Cell::SyncOne, 0, QUEEN_GONE)? {
             seat.scan = WayId(0);
@@ -66,8 +62,7 @@ impl<S: Store> Gate<'_, S> {
 
     // Place 27: the queen wins what the king has handed over.
     pub(crate) fn accept_gate(&mut self, seat: &mut Seat) -> Result<(), BoxFault>
-        ensures store { self.new.store.ghost_name ≡ self.old.store.ghost_name }
-        ensures does { Does (accept_gate_step self.old.at seat.old (S.words self.old.store.now)) (told result) (S.words self.new.store.now) seat.new }
+        ensures { Goes accept_gate_step self.old seat.old result self.new seat.new }
     {
         let word = self.read(Cell::SyncOne)?;
         let aim = self.handed_height(word, seat.height)?;
@@ -77,8 +72,7 @@ impl<S: Store> Gate<'_, S> {
 
     // Place 32: leaves its way, and backs out.
     pub(crate) fn withdraw_apply(&mut self, seat: &mut Seat) -> Result<(), BoxFault>
-        ensures store { self.new.store.ghost_name ≡ self.old.store.ghost_name }
-        ensures does { Does (withdraw_apply_step self.old.at seat.old (S.words self.old.store.now)) (told result) (S.words self.new.store.now) seat.new }
+        ensures { Goes withdraw_apply_step self.old seat.old result self.new seat.new }
     {
         let own = Cell::Apply(self.at.way);
         self.swap(own, pair(seat.passage, Mark::Pro), 0)?;

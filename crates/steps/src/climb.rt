@@ -1,8 +1,7 @@
 ghost use Rattle.std.specs.Prelude.{◌≡◌, ◌≤◌};
 ghost use Rattle.layout.specs.Gates.{heights_of};
-ghost use Rattle.layout.specs.Refusals.{told};
 ghost use Rattle.steps.specs.Climb.{claim_apply_step, race_for_role_step, await_promotion_step, recheck_count_step, await_king_step, mark_apply_step};
-ghost use Rattle.steps.specs.Outcomes.{Does};
+ghost use Rattle.steps.specs.Goes.{Goes};
 
 use crate::cells::Cell;
 use crate::codes::{Coin, Mark, Role, Taken, pair};
@@ -14,8 +13,7 @@ use store::Store;
 impl<S: Store> Gate<'_, S> {
     // Place 2: enters by its way, if nobody is there.
     pub(crate) fn claim_apply(&mut self, seat: &mut Seat) -> Result<(), BoxFault>
-        ensures store { self.new.store.ghost_name ≡ self.old.store.ghost_name }
-        ensures does { Does (claim_apply_step self.old.at seat.old (S.words self.old.store.now)) (told result) (S.words self.new.store.now) seat.new }
+        ensures { Goes claim_apply_step self.old seat.old result self.new seat.new }
     {
         let own = Cell::Apply(self.at.way);
         if self.swap(own, 0, pair(seat.passage, Mark::Reg))? {
@@ -27,8 +25,7 @@ impl<S: Store> Gate<'_, S> {
 
     // Place 5: becomes king, queen or pawn, as the coin says, if that is to be had.
     pub(crate) fn race_for_role(&mut self, seat: &mut Seat, coin: Coin) -> Result<(), BoxFault>
-        ensures store { self.new.store.ghost_name ≡ self.old.store.ghost_name }
-        ensures does { Does (race_for_role_step coin self.old.at seat.old (S.words self.old.store.now)) (told result) (S.words self.new.store.now) seat.new }
+        ensures { Goes (race_for_role_step coin) self.old seat.old result self.new seat.new }
     {
         match coin {
             Coin::TryKing => {
@@ -56,8 +53,7 @@ impl<S: Store> Gate<'_, S> {
 
     // Place 7: goes on as a promoted pawn, if it has been promoted.
     pub(crate) fn await_promotion(&mut self, seat: &mut Seat) -> Result<(), BoxFault>
-        ensures store { self.new.store.ghost_name ≡ self.old.store.ghost_name }
-        ensures does { Does (await_promotion_step self.old.at seat.old (S.words self.old.store.now)) (told result) (S.words self.new.store.now) seat.new }
+        ensures { Goes await_promotion_step self.old seat.old result self.new seat.new }
     {
         if self.read(Cell::Apply(self.at.way))? == pair(seat.passage, Mark::Pro) {
             self.write_role(Role::PromotedPawn)?;
@@ -71,8 +67,7 @@ impl<S: Store> Gate<'_, S> {
 
     // Place 8: tries for a role again, once the gate is no longer taken by king and queen.
     pub(crate) fn recheck_count(&mut self, seat: &mut Seat) -> Result<(), BoxFault>
-        ensures store { self.new.store.ghost_name ≡ self.old.store.ghost_name }
-        ensures does { Does (recheck_count_step self.old.at seat.old (S.words self.old.store.now)) (told result) (S.words self.new.store.now) seat.new }
+        ensures { Goes recheck_count_step self.old seat.old result self.new seat.new }
     {
         seat.place = if self.read(Cell::Count)? == u64::from(Taken::ByBoth) {
             Place::AwaitPromotion
@@ -84,8 +79,7 @@ impl<S: Store> Gate<'_, S> {
 
     // Place 14: the queen waits until the king has handed over.
     pub(crate) fn await_king(&mut self, seat: &mut Seat) -> Result<(), BoxFault>
-        ensures store { self.new.store.ghost_name ≡ self.old.store.ghost_name }
-        ensures does { Does (await_king_step self.old.at seat.old (S.words self.old.store.now)) (told result) (S.words self.new.store.now) seat.new }
+        ensures { Goes await_king_step self.old seat.old result self.new seat.new }
     {
         let word = self.read(Cell::SyncOne)?;
         if word == 0 {
@@ -99,8 +93,7 @@ impl<S: Store> Gate<'_, S> {
     // Place 16: wins the gates up to its aim.
     pub(crate) fn mark_apply(&mut self, seat: &mut Seat) -> Result<(), BoxFault>
         requires aim { seat.old.aim ≤ heights_of self.old.at.ways }
-        ensures store { self.new.store.ghost_name ≡ self.old.store.ghost_name }
-        ensures does { Does (mark_apply_step self.old.at seat.old (S.words self.old.store.now)) (told result) (S.words self.new.store.now) seat.new }
+        ensures { Goes mark_apply_step self.old seat.old result self.new seat.new }
     {
         self.promote_pair(self.at.way, seat.passage)?;
         *seat = self.capture(*seat);

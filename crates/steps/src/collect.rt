@@ -1,8 +1,7 @@
 ghost use Rattle.std.specs.Prelude.{◌≡◌, ◌<◌};
-ghost use Rattle.layout.specs.Refusals.{told};
 ghost use Rattle.steps.specs.Collect.{waiting, scan_apply_step, collect_pawns_step};
 ghost use Rattle.steps.specs.Pawns.{Notable};
-ghost use Rattle.steps.specs.Outcomes.{Does};
+ghost use Rattle.steps.specs.Goes.{Goes};
 
 use crate::cells::Cell;
 use crate::codes::Mark;
@@ -15,8 +14,7 @@ impl<S: Store> Gate<'_, S> {
     // Place 52: notes who waits at the next way.
     pub(crate) fn scan_apply(&mut self, seat: &mut Seat) -> Result<(), BoxFault>
         requires scan { seat.old.scan.0 < self.old.at.ways }
-        ensures store { self.new.store.ghost_name ≡ self.old.store.ghost_name }
-        ensures does { Does (scan_apply_step self.old.at seat.old (S.words self.old.store.now)) (told result) (S.words self.new.store.now) seat.new }
+        ensures { Goes scan_apply_step self.old seat.old result self.new seat.new }
     {
         let word = self.read(Cell::Apply(seat.scan))?;
         let way = seat.scan.0;
@@ -33,8 +31,7 @@ impl<S: Store> Gate<'_, S> {
     // Place 55: registers those that it has noted.
     pub(crate) fn collect_pawns(&mut self, seat: &mut Seat) -> Result<(), BoxFault>
         requires noted { Notable seat.old.noted }
-        ensures store { self.new.store.ghost_name ≡ self.old.store.ghost_name }
-        ensures does { Does (collect_pawns_step self.old.at seat.old (S.words self.old.store.now)) (told result) (S.words self.new.store.now) seat.new }
+        ensures { Goes collect_pawns_step self.old seat.old result self.new seat.new }
     {
         let ways = self.at.ways;
         self.change_pawns(|pawns| pawns.collect(ways, seat.noted))?;

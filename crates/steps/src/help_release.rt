@@ -1,8 +1,8 @@
 ghost use Rattle.std.specs.Prelude.{◌≡◌, ◌<◌, length};
-ghost use Rattle.layout.specs.Refusals.{told};
 ghost use Rattle.steps.specs.HelpRelease.{race_to_close_step, read_sync_two_step};
 ghost use Rattle.steps.specs.Codes.{cell_at};
-ghost use Rattle.steps.specs.Outcomes.{Does, clears, strikes};
+ghost use Rattle.steps.specs.Goes.{Goes};
+ghost use Rattle.steps.specs.Outcomes.{clears, strikes};
 
 use crate::cells::Cell;
 use crate::gate::Gate;
@@ -14,8 +14,7 @@ use store::Store;
 impl<S: Store> Gate<'_, S> {
     // Place 56: of king and queen, the first to come closes, and the second frees the gate.
     pub(crate) fn race_to_close(&mut self, seat: &mut Seat) -> Result<(), BoxFault>
-        ensures store { self.new.store.ghost_name ≡ self.old.store.ghost_name }
-        ensures does { Does (race_to_close_step self.old.at seat.old (S.words self.old.store.now)) (told result) (S.words self.new.store.now) seat.new }
+        ensures { Goes race_to_close_step self.old seat.old result self.new seat.new }
     {
         let own = u64::from(self.at.way.0) + 1;
         seat.place = if self.swap(Cell::SyncTwo, 0, own)? {
@@ -29,8 +28,7 @@ impl<S: Store> Gate<'_, S> {
     // Places 58, 60 and 67: empties a cell, and goes on at a place.
     pub(crate) fn clear(&mut self, cell: Cell, seat: &mut Seat, next: Place) -> Result<(), BoxFault>
         requires { cell_at self.old.at cell < length (S.words self.old.store.now) }
-        ensures store { self.new.store.ghost_name ≡ self.old.store.ghost_name }
-        ensures does { Does (clears cell next self.old.at seat.old (S.words self.old.store.now)) (told result) (S.words self.new.store.now) seat.new }
+        ensures { Goes (clears cell next) self.old seat.old result self.new seat.new }
     {
         self.write(cell, 0)?;
         seat.place = next;
@@ -39,8 +37,7 @@ impl<S: Store> Gate<'_, S> {
 
     // Place 59: keeps the way of the first to close.
     pub(crate) fn read_sync_two(&mut self, seat: &mut Seat) -> Result<(), BoxFault>
-        ensures store { self.new.store.ghost_name ≡ self.old.store.ghost_name }
-        ensures does { Does (read_sync_two_step self.old.at seat.old (S.words self.old.store.now)) (told result) (S.words self.new.store.now) seat.new }
+        ensures { Goes read_sync_two_step self.old seat.old result self.new seat.new }
     {
         let word = self.read(Cell::SyncTwo)?;
         if !(1..=u64::from(self.at.ways)).contains(&word) {
@@ -60,8 +57,7 @@ impl<S: Store> Gate<'_, S> {
         next: Place,
     ) -> Result<(), BoxFault>
         requires { way.0 < 4 }
-        ensures store { self.new.store.ghost_name ≡ self.old.store.ghost_name }
-        ensures does { Does (strikes way.0 next self.old.at seat.old (S.words self.old.store.now)) (told result) (S.words self.new.store.now) seat.new }
+        ensures { Goes (strikes way.0 next) self.old seat.old result self.new seat.new }
     {
         self.change_pawns(|pawns| pawns.remove(way))?;
         seat.place = next;

@@ -1,7 +1,6 @@
 ghost use Rattle.std.specs.Prelude.{◌≡◌, ◌<◌};
-ghost use Rattle.layout.specs.Refusals.{told};
 ghost use Rattle.steps.specs.Promote.{promote_pawn_step, open_gate_step, mark_promoted_step};
-ghost use Rattle.steps.specs.Outcomes.{Does};
+ghost use Rattle.steps.specs.Goes.{Goes};
 
 use crate::codes::Taken;
 use crate::gate::Gate;
@@ -13,8 +12,7 @@ use store::Store;
 impl<S: Store> Gate<'_, S> {
     // Place 65: promotes the first pawn, if one waits.
     pub(crate) fn promote_pawn(&mut self, seat: &mut Seat) -> Result<(), BoxFault>
-        ensures store { self.new.store.ghost_name ≡ self.old.store.ghost_name }
-        ensures does { Does (promote_pawn_step self.old.at seat.old (S.words self.old.store.now)) (told result) (S.words self.new.store.now) seat.new }
+        ensures { Goes promote_pawn_step self.old seat.old result self.new seat.new }
     {
         let ways = self.at.ways;
         let promoted = self.change_pawns(|pawns| pawns.promote(ways))?;
@@ -30,8 +28,7 @@ impl<S: Store> Gate<'_, S> {
 
     // Place 68: opens the gate.
     pub(crate) fn open_gate(&mut self, seat: &mut Seat) -> Result<(), BoxFault>
-        ensures store { self.new.store.ghost_name ≡ self.old.store.ghost_name }
-        ensures does { Does (open_gate_step self.old.at seat.old (S.words self.old.store.now)) (told result) (S.words self.new.store.now) seat.new }
+        ensures { Goes open_gate_step self.old seat.old result self.new seat.new }
     {
         self.swap_count(Taken::ByBoth, Taken::ByNobody)?;
         seat.place = closing_place(seat);
@@ -41,8 +38,7 @@ impl<S: Store> Gate<'_, S> {
     // Place 70: tells the promoted pawn, if that passage still waits there.
     pub(crate) fn mark_promoted(&mut self, seat: &mut Seat) -> Result<(), BoxFault>
         requires kept { seat.old.kept_way.0 < self.old.at.ways }
-        ensures store { self.new.store.ghost_name ≡ self.old.store.ghost_name }
-        ensures does { Does (mark_promoted_step self.old.at seat.old (S.words self.old.store.now)) (told result) (S.words self.new.store.now) seat.new }
+        ensures { Goes mark_promoted_step self.old seat.old result self.new seat.new }
     {
         self.promote_pair(seat.kept_way, seat.kept_number)?;
         seat.place = closing_place(seat);

@@ -1,7 +1,6 @@
 ghost use Rattle.std.specs.Prelude.{◌≡◌, ◌≤◌};
-ghost use Rattle.layout.specs.Refusals.{told};
 ghost use Rattle.steps.specs.Release.{read_role_step, open_alone_step, hand_over_step, read_apply_step, clear_apply_step};
-ghost use Rattle.steps.specs.Outcomes.{Does};
+ghost use Rattle.steps.specs.Goes.{Goes};
 
 use crate::cells::Cell;
 use crate::codes::{Mark, Role, Taken, pair};
@@ -13,8 +12,7 @@ use store::Store;
 impl<S: Store> Gate<'_, S> {
     // Place 35: goes on as the role asks.
     pub(crate) fn read_role(&mut self, seat: &mut Seat) -> Result<(), BoxFault>
-        ensures store { self.new.store.ghost_name ≡ self.old.store.ghost_name }
-        ensures does { Does (read_role_step self.old.at seat.old (S.words self.old.store.now)) (told result) (S.words self.new.store.now) seat.new }
+        ensures { Goes read_role_step self.old seat.old result self.new seat.new }
     {
         let role = Cell::Role(self.at.way);
         seat.place = match Role::try_from(self.read(role)?) {
@@ -28,8 +26,7 @@ impl<S: Store> Gate<'_, S> {
 
     // Place 36: a king with no queen opens the gate.
     pub(crate) fn open_alone(&mut self, seat: &mut Seat) -> Result<(), BoxFault>
-        ensures store { self.new.store.ghost_name ≡ self.old.store.ghost_name }
-        ensures does { Does (open_alone_step self.old.at seat.old (S.words self.old.store.now)) (told result) (S.words self.new.store.now) seat.new }
+        ensures { Goes open_alone_step self.old seat.old result self.new seat.new }
     {
         seat.place = if self.swap_count(Taken::ByKing, Taken::ByNobody)? {
             Place::ReadApply
@@ -41,8 +38,7 @@ impl<S: Store> Gate<'_, S> {
 
     // Place 37: the king hands his gates from this height up to the queen, unless she has gone.
     pub(crate) fn hand_over(&mut self, seat: &mut Seat) -> Result<(), BoxFault>
-        ensures store { self.new.store.ghost_name ≡ self.old.store.ghost_name }
-        ensures does { Does (hand_over_step self.old.at seat.old (S.words self.old.store.now)) (told result) (S.words self.new.store.now) seat.new }
+        ensures { Goes hand_over_step self.old seat.old result self.new seat.new }
     {
         if self.swap(Cell::SyncOne, 0, u64::from(seat.top))? {
             seat.handed = true;
@@ -56,8 +52,7 @@ impl<S: Store> Gate<'_, S> {
 
     // Place 48: keeps the number in its Apply.
     pub(crate) fn read_apply(&mut self, seat: &mut Seat) -> Result<(), BoxFault>
-        ensures store { self.new.store.ghost_name ≡ self.old.store.ghost_name }
-        ensures does { Does (read_apply_step self.old.at seat.old (S.words self.old.store.now)) (told result) (S.words self.new.store.now) seat.new }
+        ensures { Goes read_apply_step self.old seat.old result self.new seat.new }
     {
         let word = self.read(Cell::Apply(self.at.way))?;
         seat.kept_number = Passage((word / 4 % 16384) as u16);
@@ -68,8 +63,7 @@ impl<S: Store> Gate<'_, S> {
     // Place 49: leaves its way, and goes on with the next height, or away.
     pub(crate) fn clear_apply(&mut self, seat: &mut Seat) -> Result<(), BoxFault>
         requires height { seat.old.height ≤ 3 }
-        ensures store { self.new.store.ghost_name ≡ self.old.store.ghost_name }
-        ensures does { Does (clear_apply_step self.old.at seat.old (S.words self.old.store.now)) (told result) (S.words self.new.store.now) seat.new }
+        ensures { Goes clear_apply_step self.old seat.old result self.new seat.new }
     {
         let own = Cell::Apply(self.at.way);
         self.swap(own, pair(seat.kept_number, Mark::Pro), 0)?;

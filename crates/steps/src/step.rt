@@ -1,6 +1,6 @@
 ghost use Rattle.std.specs.Prelude.{◌≡◌};
-ghost use Rattle.layout.specs.Refusals.{told};
-ghost use Rattle.steps.specs.Outcomes.{Does, Ready};
+ghost use Rattle.steps.specs.Goes.{Goes};
+ghost use Rattle.steps.specs.Outcomes.{Ready};
 ghost use Rattle.steps.specs.Polls.{step_of};
 
 use crate::cells::Cell;
@@ -15,8 +15,7 @@ impl<S: Store> Gate<'_, S> {
     // A `match`: the place is a variant in the seat's record, and a table of closures would list the places once more.
     pub(crate) fn step(&mut self, seat: &mut Seat, coin: Coin) -> Result<(), BoxFault>
         requires { Ready self.old.at.ways seat.old }
-        ensures store { self.new.store.ghost_name ≡ self.old.store.ghost_name }
-        ensures does { Does (step_of seat.old.place coin self.old.at seat.old (S.words self.old.store.now)) (told result) (S.words self.new.store.now) seat.new }
+        ensures { Goes (step_of seat.old.place coin) self.old seat.old result self.new seat.new }
     {
         match seat.place {
             Place::Rest => Ok(()),
