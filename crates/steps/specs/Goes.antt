@@ -1,4 +1,5 @@
 -- A step taken at a gate in a store. Assumes nothing.
+--     SameGate x y         y is the gate x, in the store that was lent to x
 --     Goes step x s r y t  the gate x and the seat s did the step and answered r, and are y and t now
 use Rattle.std.specs.Prelude.{◌≡◌, List, ℕ, Result}
 use Rattle.store.specs.declared.words.Store.{Ghosts}
@@ -9,7 +10,11 @@ use Rattle.seats.specs.declared.seat.Seat.{Seat}
 use Rattle.steps.specs.declared.gate.Gate.{Gate}
 use Rattle.steps.specs.Outcomes.{Outcome, Does}
 
--- the store is the same one that was lent: with its ghost name a caller knows what its own store holds afterwards
+-- a loan is known by its ghost name: with it a caller knows what its own store holds afterwards
+pub record SameGate {S : Type 0} {g : Ghosts S} (x y : Gate S g) : Type 0 where
+  pub same_store : y.store.ghost_name ≡ x.store.ghost_name
+  pub same_at : y.at ≡ x.at
+
 pub record Goes {S : Type 0} {g : Ghosts S} (step : Meeting → Seat → List ℕ → Outcome (Unit {0})) (x : Gate S g) (s : Seat) (r : Result (Unit {0}) BoxFault) (y : Gate S g) (t : Seat) : Type 0 where
   pub does : Does (step x.at s (g.words x.store.now)) (told r) (g.words y.store.now) t
-  pub store : y.store.ghost_name ≡ x.store.ghost_name
+  pub gate : SameGate x y

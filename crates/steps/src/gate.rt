@@ -10,8 +10,7 @@ use crate::codes::{Mark, Role, Taken, pair};
 use layout::{BoxFault, Meeting, Passage, WayId};
 use store::Store;
 
-// A gate as a seat meets it, in a store that has all its cells. The steps of the places are its methods. Each says that
-// `store` stays the same reference, since a caller knows only then what its store holds afterwards.
+// A gate as a seat meets it, in a store that has all its cells. The steps of the places are its methods.
 #[derive(Drop)]
 pub struct Gate<'a, S: Store> {
     store: &'a mut S,
@@ -20,6 +19,8 @@ pub struct Gate<'a, S: Store> {
 }
 
 impl<'a, S: Store> Gate<'a, S> {
+    ghost use Rattle.steps.specs.Goes.{SameGate};
+
     // The gate of a meeting.
     pub(crate) fn new(store: &'a mut S, at: Meeting) -> Gate<'a, S>
         requires { Room at (length (S.words store.old)) }
@@ -33,8 +34,7 @@ impl<'a, S: Store> Gate<'a, S> {
     // The word in a cell.
     pub(crate) fn read(&mut self, cell: Cell) -> Result<u64, BoxFault>
         requires { cell_at self.old.at cell < length (S.words self.old.store.now) }
-        ensures store { self.new.store.ghost_name ≡ self.old.store.ghost_name }
-        ensures at { self.new.at ≡ self.old.at }
+        ensures gate { SameGate self.old self.new }
         ensures answer { result ≡ Ok (word (S.words self.old.store.now) self.old.at cell) }
         ensures after { S.words self.new.store.now ≡ S.words self.old.store.now }
     {
@@ -44,8 +44,7 @@ impl<'a, S: Store> Gate<'a, S> {
     // Puts a word into a cell.
     pub(crate) fn write(&mut self, cell: Cell, word: u64) -> Result<(), BoxFault>
         requires { cell_at self.old.at cell < length (S.words self.old.store.now) }
-        ensures store { self.new.store.ghost_name ≡ self.old.store.ghost_name }
-        ensures at { self.new.at ≡ self.old.at }
+        ensures gate { SameGate self.old self.new }
         ensures answer { result ≡ Ok tt }
         ensures after { S.words self.new.store.now ≡ put (S.words self.old.store.now) self.old.at cell word }
     {
@@ -55,8 +54,7 @@ impl<'a, S: Store> Gate<'a, S> {
     // Puts `new` into a cell that holds `old`, and says whether it did.
     pub(crate) fn swap(&mut self, cell: Cell, old: u64, new: u64) -> Result<bool, BoxFault>
         requires { cell_at self.old.at cell < length (S.words self.old.store.now) }
-        ensures store { self.new.store.ghost_name ≡ self.old.store.ghost_name }
-        ensures at { self.new.at ≡ self.old.at }
+        ensures gate { SameGate self.old self.new }
         ensures answer { result ≡ Ok (holds (S.words self.old.store.now) self.old.at cell old) }
         ensures after { S.words self.new.store.now ≡ swapped (S.words self.old.store.now) self.old.at cell old new }
     {
@@ -65,8 +63,7 @@ impl<'a, S: Store> Gate<'a, S> {
 
     // Lets the gate be taken by others than before, if it is taken as `old` says, and says whether it was.
     pub(crate) fn swap_count(&mut self, old: Taken, new: Taken) -> Result<bool, BoxFault>
-        ensures store { self.new.store.ghost_name ≡ self.old.store.ghost_name }
-        ensures at { self.new.at ≡ self.old.at }
+        ensures gate { SameGate self.old self.new }
         ensures answer { result ≡ Ok (holds (S.words self.old.store.now) self.old.at Count (taken_number old)) }
         ensures after { S.words self.new.store.now ≡ swapped (S.words self.old.store.now) self.old.at Count (taken_number old) (taken_number new) }
     {
@@ -75,8 +72,7 @@ impl<'a, S: Store> Gate<'a, S> {
 
     // Writes what the seat has become.
     pub(crate) fn write_role(&mut self, role: Role) -> Result<(), BoxFault>
-        ensures store { self.new.store.ghost_name ≡ self.old.store.ghost_name }
-        ensures at { self.new.at ≡ self.old.at }
+        ensures gate { SameGate self.old self.new }
         ensures answer { result ≡ Ok tt }
         ensures after { S.words self.new.store.now ≡ put (S.words self.old.store.now) self.old.at (RoleOf self.old.at.way) (role_number role) }
     {
@@ -86,8 +82,7 @@ impl<'a, S: Store> Gate<'a, S> {
     // Promotes the passage that waits at a way, if it is that one: it no longer waits for a promotion.
     pub(crate) fn promote_pair(&mut self, way: WayId, number: Passage) -> Result<(), BoxFault>
         requires { way.0 < self.old.at.ways }
-        ensures store { self.new.store.ghost_name ≡ self.old.store.ghost_name }
-        ensures at { self.new.at ≡ self.old.at }
+        ensures gate { SameGate self.old self.new }
         ensures answer { result ≡ Ok tt }
         ensures after { S.words self.new.store.now ≡ pair_promoted (S.words self.old.store.now) self.old.at way number.0 }
     {

@@ -1,6 +1,7 @@
 ghost use Rattle.std.specs.Prelude.{◌≡◌, ◌%◌, ◌<◌, ◌≤◌, IfSome, Ok};
 ghost use Rattle.steps.specs.declared.cells.Cell.TheVariants.{Pawns};
 ghost use Rattle.steps.specs.Codes.{mark_number, pair};
+ghost use Rattle.steps.specs.Goes.{SameGate};
 ghost use Rattle.steps.specs.Outcomes.{word, put};
 ghost use Rattle.std.specs.Option.{is_some, unwrap_or};
 ghost use Rattle.std.specs.Fn.{FnOnceReturnsAtMut};
@@ -81,8 +82,7 @@ impl<S: Store> Gate<'_, S> {
         change: F,
     ) -> Result<R, BoxFault>
         requires { F.IsAlwaysCallable change }
-        ensures store { self.new.store.ghost_name ≡ self.old.store.ghost_name }
-        ensures at { self.new.at ≡ self.old.at }
+        ensures gate { SameGate self.old self.new }
         ensures changes { (r : R) × (x : PawnSet) × (result ≡ Ok r) × FnOnceReturnsAtMut F.FnOnce change (record { 0 = word (S.words self.old.store.now) self.old.at Pawns }) r x × (S.words self.new.store.now ≡ put (S.words self.old.store.now) self.old.at Pawns x.0) }
     {
         let before = PawnSet(self.read(Cell::Pawns)?);
