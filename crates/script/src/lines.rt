@@ -7,7 +7,7 @@ use crate::fields::{field, times};
 use crate::line::Line;
 use crate::part::Part;
 use crate::verb::Verb;
-use crate::words::{Kind, first_word, indented, inked, leading};
+use crate::words::{cut, first_word, indented, is_note, trimmed};
 use laws::Call;
 use layout::{Passage, SeatId};
 
@@ -42,10 +42,8 @@ pub(crate) fn note_of(line: &[u8]) -> &[u8]
     ensures { result.now ≡ note_of line.now }
 {
     let (_, rest) = first_word(line);
-    let text = indented(behind_two(rest));
-    let (note, _) = text.split_at(leading(text, Kind::Note));
-    let (note, _) = note.split_at(inked(note));
-    note
+    let (note, _) = cut(indented(behind_two(rest)), is_note);
+    trimmed(note)
 }
 
 // `ways N`, behind its first word.
