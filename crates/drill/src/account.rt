@@ -1,20 +1,12 @@
 // The summary of a run.
-use crate::row::{Note, note_of};
+use crate::row::Note;
+use crate::turn::Turn;
 use laws::{Call, Got};
 use layout::{Passage, SeatId};
-use script::{Event, Longest, Out, Refusals, Said, Script};
+use script::{Event, Longest, Out, Refusals, Said};
 use seats::{Seat, State};
 use std::alloc::{AllocError, Global};
-
-// The events that are counted.
-const EVENTS: [Event; 6] = [
-    Event::King,
-    Event::Queen,
-    Event::Pawn,
-    Event::Promoted,
-    Event::HandedOver,
-    Event::QueenGaveUp,
-];
+use std::collections::BTreeMap;
 
 // A time for which a seat held the right, by the numbers of calls.
 #[derive(Clone, Copy)]
@@ -31,88 +23,94 @@ struct Holding {
 struct Course {
     record: Seat,
     out: Out,
-    // which of the holdings is its latest
-    holding: usize,
 }
 
 // A publish that was accepted.
 #[derive(Clone, Copy)]
-struct Published {
+struct Published<'a> {
     at: usize,
     seat: SeatId,
     passage: Passage,
+    text: &'a [u8],
 }
 
 #[derive(Drop)]
-pub struct Account {
+pub struct Account<'a> {
     courses: Vec<Course>,
     holdings: Vec<Holding>,
-    published: Vec<Published>,
-    events: [u32; 6],
+    published: Vec<Published<'a>>,
+    events: BTreeMap<Event, u32>,
     refusals: Refusals,
     longest: Longest,
-    // how many seats hold now, and the most that ever did at once
-    holders: u32,
-    most_holders: u32,
+    // the most seats that ever held at once
+    most_holders: usize,
+    calls: usize,
     accepted: usize,
 }
 
-impl Account {
+impl<'a> Account<'a> {
     // The account of a run without calls.
-    pub fn new(heap: Global) -> Result<Account, AllocError> {
+    pub fn new(heap: Global) -> Result<Account<'a>, AllocError> {
         let course = Course {
             record: Seat::away(),
             out: Out::Within,
-            holding: 0,
         };
         Ok(Account {
             courses: vec![in heap; course; 64]?,
             holdings: Vec::new(heap),
             published: Vec::new(heap),
-            events: [0; 6],
+            events: BTreeMap::new(heap),
             refusals: Refusals::none(),
             longest: Longest {
                 give_up: 0,
                 leave: 0,
             },
-            holders: 0,
             most_holders: 0,
+            calls: 0,
             accepted: 0,
         })
     }
 
     // Takes the next call into account.
-    pub fn take(&mut self, at: usize, call: Call, got: Got) -> Result<(), AllocError> {
+    pub fn take(&mut self, at: usize, turn: Turn<'a>, got: Got) -> Result<(), AllocError> {
+        self.calls = self.calls.saturating_add(1);
         if let Err(refusal) = got.answer {
             self.refusals.add(refusal.number);
             return Ok(());
         }
         self.accepted = self.accepted.saturating_add(1);
+        let Turn { call, note } = turn;
         let seat = Said(call).seat();
         let Some(course) = self.courses.get_mut(usize::from(seat.0)) else {
             return Ok(());
         };
         let before = *course;
-        course.record = got.seat;
-        course.out = before.out.called(call, got.seat.state);
-        self.longest = self.longest.with(before.out.called(call, got.seat.state));
+        let after = Course {
+            record: got.seat,
+            out: before.out.called(call, got.seat.state),
+        };
+        *course = after;
+        self.longest = self.longest.with(after.out);
         match call {
-            Call::Poll { .. } => self.count(before.record, got.seat),
-            Call::Publish { seat, passage } => self
-                .published
-                .push(Published { at, seat, passage })?,
+            Call::Poll { .. } => self.count(before.record, after.record)?,
+            Call::Publish { seat, passage } => self.published.push(Published {
+                at,
+                seat,
+                passage,
+                text: note,
+            })?,
             _ => {}
         }
-        self.hold(at, seat, before, got.seat)
+        self.hold(at, seat, before.record, after.record)
     }
 
     // Counts what a poll has made of a seat.
-    fn count(&mut self, before: Seat, after: Seat) {
+    fn count(&mut self, before: Seat, after: Seat) -> Result<(), AllocError> {
         if let Some(event) = Event::between(before.place, after.place) {
-            if let Some(count) = self.events.get_mut(event as usize) {
-                *count = count.saturating_add(1);
-            }
+            let count = self.events.entry(event)?.or_insert(0);
+            *count = count.saturating_add(1);
         }
+        Ok(())
     }
 
     // Notes where a holding begins or ends.
@@ -120,47 +118,53 @@ impl Account {
         &mut self,
         at: usize,
         seat: SeatId,
-        before: Course,
+        before: Seat,
         after: Seat,
     ) -> Result<(), AllocError> {
-        let held = matches!(before.record.state, State::Holding);
-        let holds = matches!(after.state, State::Holding);
-        if holds && !held {
-            if let Some(course) = self.courses.get_mut(usize::from(seat.0)) {
-                course.holding = self.holdings.len();
+        match (before.state, after.state) {
+            (State::Holding, State::Holding) => {}
+            (State::Holding, _) => {
+                let mut latest = self.holdings.iter_mut().rev();
+                if let Some(holding) = latest.find(|holding| holding.seat == seat) {
+                    holding.till = Some(at);
+                }
             }
-            self.holders = self.holders.saturating_add(1);
-            self.most_holders = self.most_holders.max(self.holders);
-            self.holdings.push(Holding {
-                seat,
-                passage: after.passage,
-                from: at,
-                till: None,
-            })?;
-        }
-        if held && !holds {
-            self.holders = self.holders.saturating_sub(1);
-            if let Some(holding) = self.holdings.get_mut(before.holding) {
-                holding.till = Some(at);
+            (_, State::Holding) => {
+                self.holdings.push(Holding {
+                    seat,
+                    passage: after.passage,
+                    from: at,
+                    till: None,
+                })?;
+                self.most_holders = self.most_holders.max(self.holders());
             }
+            _ => {}
         }
         Ok(())
     }
 
-    // Tells the summary of a script that was played.
-    pub fn tell(&self, rt: &HostRuntime, script: &Script, text: &[u8]) -> anyhow::Result<()> {
-        let calls = script.calls.len();
+    // How many seats hold now.
+    fn holders(&self) -> usize {
+        self.courses
+            .iter()
+            .filter(|course| course.record.state == State::Holding)
+            .count()
+    }
+
+    // Tells the summary of the calls that were made.
+    pub fn tell(&self, rt: &HostRuntime) -> anyhow::Result<()> {
+        let calls = self.calls;
         let accepted = self.accepted;
         let refused = calls.saturating_sub(accepted);
         println!(rt; "calls: {calls}, accepted {accepted}, refused {refused}")?;
         self.tell_holdings(rt)?;
-        for published in self.published.as_slice() {
+        for published in &self.published {
             let number = published.at.saturating_add(1);
             let seat = published.seat.0;
             let passage = published.passage.0;
             let note = Note {
                 lead: ": ",
-                text: note_of(script, text, published.at),
+                text: published.text,
             };
             println!(rt; "published: call {number}, seat {seat}, passage {passage}{note}")?;
         }
@@ -169,7 +173,7 @@ impl Account {
 
     // Tells who held when.
     fn tell_holdings(&self, rt: &HostRuntime) -> anyhow::Result<()> {
-        for holding in self.holdings.as_slice() {
+        for holding in &self.holdings {
             let seat = holding.seat.0;
             let passage = holding.passage.0;
             let from = holding.from.saturating_add(1);
@@ -193,7 +197,8 @@ impl Account {
 
     // Tells what happened at the gates, the refusals by number, and the longest ways out.
     fn tell_counts(&self, rt: &HostRuntime) -> anyhow::Result<()> {
-        for (event, count) in EVENTS.iter().zip(&self.events) {
+        for event in Event::ALL {
+            let count = self.events.get(&event).copied().unwrap_or(0);
             println!(rt; "{event}: {count}")?;
         }
         for number in 1..11 {

@@ -1,10 +1,11 @@
 // A random day: calls of a few busy seats, chosen by what a box in memory says of them.
 use crate::dice::Dice;
+use crate::plan::Plan;
+use crate::turn::Turn;
 use anyhow::anyhow;
 use laws::Call;
 use layout::{BoxRecord, Passage, SeatId};
 use lock::{apply, give_up, leave, open, poll, publish};
-use script::Script;
 use seats::{Place, Seat, State};
 use std::alloc::Global;
 use store::Memory;
@@ -46,22 +47,23 @@ impl Day {
         })
     }
 
-    // The day as a script, whose calls have no text.
-    pub fn script(self, heap: Global) -> Script {
-        Script {
+    // The day as it is played, with calls that have no text.
+    pub fn plan(&self, heap: Global) -> anyhow::Result<Plan<'static>> {
+        Ok(Plan {
             ways: self.gate.ways(),
-            calls: self.calls,
-            starts: Vec::new(heap),
-        }
+            turns: self
+                .calls
+                .iter()
+                .map(|call| Turn::silent(*call))
+                .collect(heap)?,
+        })
     }
 
     // Adds a call, and makes it on the day's own box.
     pub fn add(&mut self) -> anyhow::Result<()> {
         let seat = self.busy();
-        let record = match self.table.get(usize::from(seat.0)) {
-            Some(record) => *record,
-            None => Seat::away(),
-        };
+        let record = self.table.get(usize::from(seat.0));
+        let record = record.copied().unwrap_or(Seat::away());
         let call = self.choose(seat, record);
         self.make(call);
         self.calls.push(call)?;
@@ -76,10 +78,8 @@ impl Day {
             _ => &BUSY_4,
         };
         let at = self.dice.below(6);
-        match seats.get(usize::from(at) % seats.len().max(1)) {
-            Some(seat) => SeatId(*seat),
-            None => SeatId(0),
-        }
+        let seat = seats.get(usize::from(at) % seats.len().max(1));
+        SeatId(seat.copied().unwrap_or(0))
     }
 
     // A call that suits a seat, and now and then one that does not.

@@ -1,2 +1,2 @@
 pub mod FieldLaws
-pub mod ScriptLaws
+pub mod RowLaws

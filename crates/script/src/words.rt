@@ -32,6 +32,13 @@ pub(crate) fn cut<F: Fn(u8) -> bool>(text: &[u8], passes: F) -> (&[u8], &[u8])
     text.split_at(front)
 }
 
+// A text from a place on, empty where it is shorter.
+pub(crate) fn from_place(text: &[u8], place: usize) -> &[u8]
+    ensures { result.now ≡ drop place text.now }
+{
+    text.get(place..).unwrap_or(&[])
+}
+
 // A text without the blanks that it begins with.
 pub(crate) fn indented(text: &[u8]) -> &[u8]
     ensures { result.now ≡ indented_of text.now }
