@@ -5,7 +5,7 @@
 --     end_of t    whether t has no word
 --     line_of t   what the line t says, or what is wrong with it
 --     note_of t   the text of the publish t
-use Rattle.std.specs.Prelude.{ℕ, cond, List, length, take, Some, None, Ok, Err, codes, Option, Result, ◌==◌}
+use Rattle.std.specs.Prelude.{ℕ, cond, List, length, Some, None, Ok, Err, codes, Option, Result, ◌==◌}
 use Rattle.std.specs.List.{take_while}
 use Rattle.std.specs.Str.{bytes_eq}
 use Rattle.laws.specs.declared.call.Call.{Call}
