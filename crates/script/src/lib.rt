@@ -8,6 +8,7 @@ mod line;
 mod lines;
 mod out;
 pub mod part;
+mod reader;
 mod refusals;
 mod rows;
 mod say;
