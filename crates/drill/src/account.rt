@@ -1,4 +1,5 @@
 // The summary of a run.
+use crate::plan::SEATS;
 use crate::row::Note;
 use crate::turn::Turn;
 use laws::{Call, Got};
@@ -7,6 +8,7 @@ use script::{Event, Longest, Out, Refusals, Said};
 use seats::{Seat, State};
 use std::alloc::{AllocError, Global};
 use std::collections::BTreeMap;
+use std::fmt;
 
 // A time for which a seat held the right, by the numbers of calls.
 #[derive(Clone, Copy)]
@@ -16,6 +18,27 @@ struct Holding {
     from: usize,
     // the call that ended it, if one has
     till: Option<usize>,
+}
+
+impl fmt::Display for Holding {
+    fn fmt<W: fmt::Write>(&self, f: &mut fmt::Formatter<W>) -> fmt::Result {
+        let Holding {
+            seat,
+            passage,
+            from,
+            till,
+        } = *self;
+        let from = from.saturating_add(1);
+        write!(
+            f,
+            "held: seat {}, passage {}, from call {from} to ",
+            seat.0, passage.0
+        )?;
+        match till {
+            Some(till) => write!(f, "call {}", till.saturating_add(1)),
+            None => f.write_str("the end"),
+        }
+    }
 }
 
 // What is remembered of a seat.
@@ -34,6 +57,25 @@ struct Published<'a> {
     text: &'a [u8],
 }
 
+impl fmt::Display for Published<'_> {
+    fn fmt<W: fmt::Write>(&self, f: &mut fmt::Formatter<W>) -> fmt::Result {
+        let Published {
+            at,
+            seat,
+            passage,
+            text,
+        } = *self;
+        let number = at.saturating_add(1);
+        let note = Note { lead: ": ", text };
+        write!(
+            f,
+            "published: call {number}, seat {}, passage {}{note}",
+            seat.0, passage.0
+        )
+    }
+}
+
+// What is kept of the calls so far.
 #[derive(Drop)]
 pub struct Account<'a> {
     courses: Vec<Course>,
@@ -56,15 +98,12 @@ impl<'a> Account<'a> {
             out: Out::Within,
         };
         Ok(Account {
-            courses: vec![in heap; course; 64]?,
+            courses: vec![in heap; course; SEATS]?,
             holdings: Vec::new(heap),
             published: Vec::new(heap),
             events: BTreeMap::new(heap),
             refusals: Refusals::none(),
-            longest: Longest {
-                give_up: 0,
-                leave: 0,
-            },
+            longest: Longest::default(),
             most_holders: 0,
             calls: 0,
             accepted: 0,
@@ -153,46 +192,20 @@ impl<'a> Account<'a> {
 
     // Tells the summary of the calls that were made.
     pub fn tell(&self, rt: &HostRuntime) -> anyhow::Result<()> {
-        let calls = self.calls;
-        let accepted = self.accepted;
-        let refused = calls.saturating_sub(accepted);
-        println!(rt; "calls: {calls}, accepted {accepted}, refused {refused}")?;
-        self.tell_holdings(rt)?;
-        for published in &self.published {
-            let number = published.at.saturating_add(1);
-            let seat = published.seat.0;
-            let passage = published.passage.0;
-            let note = Note {
-                lead: ": ",
-                text: published.text,
-            };
-            println!(rt; "published: call {number}, seat {seat}, passage {passage}{note}")?;
-        }
-        self.tell_counts(rt)
-    }
-
-    // Tells who held when.
-    fn tell_holdings(&self, rt: &HostRuntime) -> anyhow::Result<()> {
+        let refused = self.calls.saturating_sub(self.accepted);
+        println!(rt;
+            "calls: {}, accepted {}, refused {refused}",
+            self.calls, self.accepted
+        )?;
         for holding in &self.holdings {
-            let seat = holding.seat.0;
-            let passage = holding.passage.0;
-            let from = holding.from.saturating_add(1);
-            match holding.till {
-                Some(till) => {
-                    let till = till.saturating_add(1);
-                    println!(rt;
-                        "held: seat {seat}, passage {passage}, from call {from} to call {till}"
-                    )?;
-                }
-                None => println!(rt;
-                    "held: seat {seat}, passage {passage}, from call {from} to the end"
-                )?,
-            }
+            println!(rt; "{holding}")?;
         }
         let times = self.holdings.len();
-        let most = self.most_holders;
-        println!(rt; "holdings: {times}, at most {most} at once")?;
-        Ok(())
+        println!(rt; "holdings: {times}, at most {} at once", self.most_holders)?;
+        for published in &self.published {
+            println!(rt; "{published}")?;
+        }
+        self.tell_counts(rt)
     }
 
     // Tells what happened at the gates, the refusals by number, and the longest ways out.
@@ -207,8 +220,7 @@ impl<'a> Account<'a> {
                 println!(rt; "refused {number}: {count}")?;
             }
         }
-        let give_up = self.longest.give_up;
-        let leave = self.longest.leave;
+        let Longest { give_up, leave } = self.longest;
         println!(rt; "longest way out: {give_up} polls after a give-up, {leave} after a leave")?;
         Ok(())
     }

@@ -1,6 +1,6 @@
 // A random day: calls of a few busy seats, chosen by what a box in memory says of them.
 use crate::dice::Dice;
-use crate::plan::Plan;
+use crate::plan::{CELLS, Plan, SEATS};
 use crate::turn::Turn;
 use anyhow::anyhow;
 use laws::Call;
@@ -29,8 +29,8 @@ pub struct Day {
 impl Day {
     // A day without calls.
     pub fn new(heap: Global, ways: u8, seed: u64) -> anyhow::Result<Day> {
-        let mut words = vec![in heap; 0; 252]?;
-        let mut table = vec![in heap; Seat::away(); 64]?;
+        let mut words = vec![in heap; 0; CELLS]?;
+        let mut table = vec![in heap; Seat::away(); SEATS]?;
         let Ok(gate) = open(
             ways,
             &mut Memory::new(words.as_mut_slice()),
@@ -132,9 +132,7 @@ impl Day {
             return any;
         }
         match self.count(seat, record.height) {
-            Some(0) => 0,
-            Some(1) => 1,
-            Some(2) => 2,
+            Some(count @ 0..=2) => count as u8,
             _ => any,
         }
     }

@@ -10,13 +10,10 @@ mod turn;
 
 use anyhow::anyhow;
 use day::Day;
-use plan::{Detail, Plan};
+use plan::{CELLS, Detail, Plan};
 use std::process::ExitCode;
 use std::{env, fs};
 use store::{Image, Memory};
-
-// How many cells the largest box has.
-const CELLS: usize = 252;
 
 fn main(rt: HostRuntime) -> ExitCode {
     let Err(fault) = run(&rt) else {

@@ -8,8 +8,10 @@ use script::read_script;
 use seats::Seat;
 use store::Store;
 
-// How many seats the largest box has.
-const SEATS: usize = 64;
+// How many seats and cells the largest box has.
+pub const SEATS: usize = 64;
+
+pub const CELLS: usize = 252;
 
 // What is told of a run.
 #[derive(Clone, Copy, PartialEq, Eq)]
@@ -67,7 +69,8 @@ impl<'a> Plan<'a> {
         for (at, (turn, got)) in self.turns.iter().zip(got).enumerate() {
             account.take(at, *turn, *got)?;
             if detail == Detail::Lines {
-                Report::new(at, *turn, *got).print(rt)?;
+                let report = Report::new(at, *turn, *got);
+                println!(rt; "{report}")?;
             }
         }
         account.tell(rt)

@@ -3,6 +3,7 @@ use crate::turn::Turn;
 use laws::{Call, Got};
 use layout::Refusal;
 use script::Said;
+use seats::Seat;
 use std::fmt;
 
 // A call and what it got, as it is told.
@@ -22,24 +23,31 @@ impl<'a> Report<'a> {
             got,
         }
     }
+}
 
-    // Prints the line of the call.
-    pub fn print(&self, rt: &HostRuntime) -> anyhow::Result<()> {
+impl fmt::Display for Report<'_> {
+    fn fmt<W: fmt::Write>(&self, f: &mut fmt::Formatter<W>) -> fmt::Result {
+        let Turn { call, note } = self.turn;
         let number = self.number;
-        let said = Said(self.turn.call);
+        let said = Said(call);
         let note = Note {
             lead: " ",
-            text: self.turn.note,
+            text: note,
         };
         let answer = Answer {
-            call: self.turn.call,
+            call,
             value: self.got.answer,
         };
-        let state = self.got.seat.state;
-        let height = self.got.seat.height;
-        let top = self.got.seat.top;
-        println!(rt; "{number}: {said}{note}: {answer}; {state}, height {height}, top {top}")?;
-        Ok(())
+        let Seat {
+            state,
+            height,
+            top,
+            ..
+        } = self.got.seat;
+        write!(
+            f,
+            "{number}: {said}{note}: {answer}; {state}, height {height}, top {top}"
+        )
     }
 }
 

@@ -4,17 +4,6 @@ ghost use Rattle.script.specs.Fields.{digit_of, field_of, most_of, times_of};
 use crate::fault::LineFault;
 use crate::part::Part;
 
-// The largest number that is taken.
-pub(crate) fn most(part: Part) -> u16
-    ensures { result ≡ most_of part }
-{
-    match part {
-        Part::Ways | Part::Seat | Part::Coin => 255,
-        Part::Passage => 65535,
-        Part::Times => 9999,
-    }
-}
-
 // A number with one decimal digit more.
 fn longer(value: u16, byte: u8, part: Part) -> Result<u16, LineFault>
     ensures { result ≡ digit_of part value byte }
@@ -23,7 +12,7 @@ fn longer(value: u16, byte: u8, part: Part) -> Result<u16, LineFault>
         return Err(LineFault::NoNumber(part));
     }
     let more = 10 * u32::from(value) + u32::from(byte - b'0');
-    if more > u32::from(most(part)) {
+    if more > u32::from(part.most()) {
         return Err(LineFault::TooLarge(part));
     }
     Ok(more as u16)

@@ -12,34 +12,15 @@ pub struct Said(pub Call);
 impl fmt::Display for Said {
     fn fmt<W: fmt::Write>(&self, f: &mut fmt::Formatter<W>) -> fmt::Result {
         match self.0 {
-            Call::Apply { seat } => {
-                let p = seat.0;
-                write!(f, "apply {p}")
-            }
+            Call::Apply { seat } => write!(f, "apply {}", seat.0),
             Call::Poll {
                 seat,
                 passage,
                 coin,
-            } => {
-                let p = seat.0;
-                let n = passage.0;
-                write!(f, "poll {p} {n} {coin}")
-            }
-            Call::GiveUp { seat, passage } => {
-                let p = seat.0;
-                let n = passage.0;
-                write!(f, "give-up {p} {n}")
-            }
-            Call::Leave { seat, passage } => {
-                let p = seat.0;
-                let n = passage.0;
-                write!(f, "leave {p} {n}")
-            }
-            Call::Publish { seat, passage } => {
-                let p = seat.0;
-                let n = passage.0;
-                write!(f, "publish {p} {n}")
-            }
+            } => write!(f, "poll {} {} {coin}", seat.0, passage.0),
+            Call::GiveUp { seat, passage } => write!(f, "give-up {} {}", seat.0, passage.0),
+            Call::Leave { seat, passage } => write!(f, "leave {} {}", seat.0, passage.0),
+            Call::Publish { seat, passage } => write!(f, "publish {} {}", seat.0, passage.0),
         }
     }
 }
