@@ -22,10 +22,9 @@ rows_headed b (d ∷ ds) f = ap (headed b) (f (omega arith))
 rows_step : (x : Bool) (b : ℕ) (bs : List ℕ) → Cut bs → cond x ([] ∷ rows_of bs) (headed b (rows_of bs)) ≡ take (cond (not x) (1 + row_end bs) 0) (b ∷ bs) ∷ rows_of (drop (cond (not x) (1 + row_end bs) 0 + 1) (b ∷ bs))
 rows_step true b bs f = refl
 rows_step false b bs f =
-    let e : suc (row_end bs) ≡ 1 + row_end bs = omega arith in
-    let d : suc (row_end bs + 1) ≡ 1 + row_end bs + 1 = omega arith in
-    rows_headed b bs f
-    ∙ (ap (λ k. take k (b ∷ bs) ∷ rows_of (drop (suc (row_end bs + 1)) (b ∷ bs))) e ∙ ap (λ k. take (1 + row_end bs) (b ∷ bs) ∷ rows_of (drop k (b ∷ bs))) d)
+    let e : 1 + row_end bs ≡ suc (row_end bs) = omega arith in
+    let d : suc (row_end bs) + 1 ≡ suc (row_end bs + 1) = omega arith in
+    rw (e, d) (rows_headed b bs f)
 
 rows_first : (t : List ℕ) → Cut t
 rows_first [] h = absurd (omega arith)
@@ -34,6 +33,4 @@ rows_first (b ∷ bs) h = rows_step (eqb b 10) b bs (rows_first bs)
 pub rows_next : (t : List ℕ) (a : ℕ) (r : List ℕ) → 0 < length (drop a t) → r ≡ row_of (drop a t) → rows_of (drop a t) ≡ r ∷ rows_of (drop (a + (length r + 1)) t)
 rows_next t a r h e =
     let m : length r ≡ row_end (drop a t) = ap length e ∙ length-take-le (row_end (drop a t)) (drop a t) (prefix_len-le-length is_row_byte (drop a t)) in
-    let d : drop (row_end (drop a t) + 1) (drop a t) ≡ drop (a + (length r + 1)) t =
-    drop-drop (row_end (drop a t) + 1) a t ∙ ap (λ k. drop (a + (k + 1)) t) (sym m) in
-    rows_first (drop a t) h ∙ (ap (λ x. x ∷ rows_of (drop (row_end (drop a t) + 1) (drop a t))) (sym e) ∙ ap (λ x. r ∷ rows_of x) d)
+    rw (m, e) (rows_first (drop a t) h ∙ ap (λ x. row_of (drop a t) ∷ rows_of x) (drop-drop (row_end (drop a t) + 1) a t))

@@ -10,7 +10,7 @@
 --     rest_of t         the text behind it
 --     row_of t          the first row of t
 use Rattle.std.specs.Prelude.{◌≡◌, ℕ, ◌-◌, Bool, not, ◌&&◌, ◌||◌, List, length, take, drop, ◌==◌}
-use Rattle.std.specs.List.{prefix_len, suffix_len}
+use Rattle.std.specs.List.{prefix_len, suffix_len, take_while}
 
 abbrev pub is_blank_byte : ℕ → Bool
 is_blank_byte b = b == 32 || (b == 9 || b == 13)
@@ -34,10 +34,10 @@ abbrev pub trimmed_of : List ℕ → List ℕ
 trimmed_of t = take (length t - suffix_len is_blank_byte t) t
 
 unfoldable pub word_of : List ℕ → List ℕ
-word_of t = take (prefix_len is_letter_byte (indented_of t)) (indented_of t)
+word_of t = take_while is_letter_byte (indented_of t)
 
 unfoldable pub rest_of : List ℕ → List ℕ
 rest_of t = drop (prefix_len is_letter_byte (indented_of t)) (indented_of t)
 
 abbrev pub row_of : List ℕ → List ℕ
-row_of t = take (prefix_len is_row_byte t) t
+row_of t = take_while is_row_byte t
