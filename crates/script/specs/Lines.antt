@@ -14,8 +14,8 @@ use Rattle.script.specs.declared.fault.LineFault.{LineFault}
 use Rattle.script.specs.declared.fault.LineFault.TheVariants.{Unknown, TooMany}
 use Rattle.script.specs.declared.line.Line.{Line}
 use Rattle.script.specs.declared.line.Line.TheVariants as line
-use Rattle.script.specs.declared.reader.Own.{Own}
 use Rattle.script.specs.declared.part.Part.TheVariants as part
+use Rattle.script.specs.declared.reader.Own.{Own}
 use Rattle.script.specs.declared.verb.Verb.{Verb}
 use Rattle.script.specs.declared.verb.Verb.TheVariants as verb
 use Rattle.script.specs.Fields.{field_of, onward, times_of}

@@ -16,6 +16,7 @@ pub(crate) struct Row<'a> {
 #[derive(Drop)]
 pub(crate) struct Rows<'a> {
     text: &'a [u8],
+    // of the next row
     number: usize,
     start: usize,
     ghost counted: { number ≤ start + 1 },
