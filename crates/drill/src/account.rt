@@ -1,20 +1,14 @@
 // The summary of a run.
-use crate::row::{Note, note_of};
+use crate::plan::SEATS;
+use crate::row::Note;
+use crate::turn::Turn;
 use laws::{Call, Got};
 use layout::{Passage, SeatId};
-use script::{Event, Longest, Out, Refusals, Said, Script};
+use script::{Event, Longest, Out, Refusals};
 use seats::{Seat, State};
 use std::alloc::{AllocError, Global};
-
-// The events that are counted.
-const EVENTS: [Event; 6] = [
-    Event::King,
-    Event::Queen,
-    Event::Pawn,
-    Event::Promoted,
-    Event::HandedOver,
-    Event::QueenGaveUp,
-];
+use std::collections::BTreeMap;
+use std::fmt;
 
 // A time for which a seat held the right, by the numbers of calls.
 #[derive(Clone, Copy)]
@@ -26,93 +20,134 @@ struct Holding {
     till: Option<usize>,
 }
 
+impl fmt::Display for Holding {
+    fn fmt<W: fmt::Write>(&self, f: &mut fmt::Formatter<W>) -> fmt::Result {
+        let Holding {
+            seat,
+            passage,
+            from,
+            till,
+        } = *self;
+        let from = from.saturating_add(1);
+        write!(
+            f,
+            "held: seat {seat}, passage {passage}, from call {from} to "
+        )?;
+        match till {
+            Some(till) => write!(f, "call {}", till.saturating_add(1)),
+            None => f.write_str("the end"),
+        }
+    }
+}
+
 // What is remembered of a seat.
 #[derive(Clone, Copy)]
 struct Course {
     record: Seat,
     out: Out,
-    // which of the holdings is its latest
-    holding: usize,
 }
 
 // A publish that was accepted.
 #[derive(Clone, Copy)]
-struct Published {
+struct Published<'a> {
     at: usize,
     seat: SeatId,
     passage: Passage,
+    text: &'a [u8],
 }
 
+impl fmt::Display for Published<'_> {
+    fn fmt<W: fmt::Write>(&self, f: &mut fmt::Formatter<W>) -> fmt::Result {
+        let Published {
+            at,
+            seat,
+            passage,
+            text,
+        } = *self;
+        let number = at.saturating_add(1);
+        let note = Note { lead: ": ", text };
+        write!(
+            f,
+            "published: call {number}, seat {seat}, passage {passage}{note}"
+        )
+    }
+}
+
+// What is kept of the calls so far.
 #[derive(Drop)]
-pub struct Account {
+pub struct Account<'a> {
     courses: Vec<Course>,
     holdings: Vec<Holding>,
-    published: Vec<Published>,
-    events: [u32; 6],
+    published: Vec<Published<'a>>,
+    events: BTreeMap<Event, u32>,
     refusals: Refusals,
     longest: Longest,
-    // how many seats hold now, and the most that ever did at once
-    holders: u32,
-    most_holders: u32,
+    // the most seats that ever held at once
+    most_holders: usize,
+    calls: usize,
     accepted: usize,
 }
 
-impl Account {
+impl<'a> Account<'a> {
     // The account of a run without calls.
-    pub fn new(heap: Global) -> Result<Account, AllocError> {
+    pub fn new(heap: Global) -> Result<Account<'a>, AllocError> {
         let course = Course {
             record: Seat::away(),
             out: Out::Within,
-            holding: 0,
         };
         Ok(Account {
-            courses: vec![in heap; course; 64]?,
+            courses: vec![in heap; course; SEATS]?,
             holdings: Vec::new(heap),
             published: Vec::new(heap),
-            events: [0; 6],
+            events: BTreeMap::new(heap),
             refusals: Refusals::none(),
-            longest: Longest {
-                give_up: 0,
-                leave: 0,
-            },
-            holders: 0,
+            longest: Longest::default(),
             most_holders: 0,
+            calls: 0,
             accepted: 0,
         })
     }
 
     // Takes the next call into account.
-    pub fn take(&mut self, at: usize, call: Call, got: Got) -> Result<(), AllocError> {
+    pub fn take(&mut self, at: usize, turn: Turn<'a>, got: Got) -> Result<(), AllocError> {
+        self.calls = self.calls.saturating_add(1);
         if let Err(refusal) = got.answer {
             self.refusals.add(refusal.number);
             return Ok(());
         }
         self.accepted = self.accepted.saturating_add(1);
-        let seat = Said(call).seat();
+        let Turn { call, note } = turn;
+        let seat = call.seat();
         let Some(course) = self.courses.get_mut(usize::from(seat.0)) else {
             return Ok(());
         };
         let before = *course;
-        course.record = got.seat;
-        course.out = before.out.called(call, got.seat.state);
-        self.longest = self.longest.with(before.out.called(call, got.seat.state));
+        let after = Course {
+            record: got.seat,
+            out: before.out.called(call, got.seat.state),
+        };
+        *course = after;
+        self.longest = self.longest.with(after.out);
         match call {
-            Call::Poll { .. } => self.count(before.record, got.seat),
-            Call::Publish { seat, passage } => self
-                .published
-                .push(Published { at, seat, passage })?,
+            Call::Poll { .. } => self.count(before.record, after.record)?,
+            Call::Publish { seat, passage } => self.published.push(Published {
+                at,
+                seat,
+                passage,
+                text: note,
+            })?,
             _ => {}
         }
-        self.hold(at, seat, before, got.seat)
+        self.hold(at, seat, before.record, after.record)
     }
 
     // Counts what a poll has made of a seat.
-    fn count(&mut self, before: Seat, after: Seat) {
+    fn count(&mut self, before: Seat, after: Seat) -> Result<(), AllocError> {
         if let Some(event) = Event::between(before.place, after.place) {
-            if let Some(count) = self.events.get_mut(event as usize) {
-                *count = count.saturating_add(1);
-            }
+            let count = self.events.entry(event)?.or_insert(0);
+            *count = count.saturating_add(1);
         }
+        Ok(())
     }
 
     // Notes where a holding begins or ends.
@@ -120,80 +155,61 @@ impl Account {
         &mut self,
         at: usize,
         seat: SeatId,
-        before: Course,
+        before: Seat,
         after: Seat,
     ) -> Result<(), AllocError> {
-        let held = matches!(before.record.state, State::Holding);
-        let holds = matches!(after.state, State::Holding);
-        if holds && !held {
-            if let Some(course) = self.courses.get_mut(usize::from(seat.0)) {
-                course.holding = self.holdings.len();
+        match (before.state, after.state) {
+            (State::Holding, State::Holding) => {}
+            (State::Holding, _) => {
+                let mut latest = self.holdings.iter_mut().rev();
+                if let Some(holding) = latest.find(|holding| holding.seat == seat) {
+                    holding.till = Some(at);
+                }
             }
-            self.holders = self.holders.saturating_add(1);
-            self.most_holders = self.most_holders.max(self.holders);
-            self.holdings.push(Holding {
-                seat,
-                passage: after.passage,
-                from: at,
-                till: None,
-            })?;
-        }
-        if held && !holds {
-            self.holders = self.holders.saturating_sub(1);
-            if let Some(holding) = self.holdings.get_mut(before.holding) {
-                holding.till = Some(at);
+            (_, State::Holding) => {
+                self.holdings.push(Holding {
+                    seat,
+                    passage: after.passage,
+                    from: at,
+                    till: None,
+                })?;
+                self.most_holders = self.most_holders.max(self.holders());
             }
+            _ => {}
         }
         Ok(())
     }
 
-    // Tells the summary of a script that was played.
-    pub fn tell(&self, rt: &HostRuntime, script: &Script, text: &[u8]) -> anyhow::Result<()> {
-        let calls = script.calls.len();
-        let accepted = self.accepted;
-        let refused = calls.saturating_sub(accepted);
-        println!(rt; "calls: {calls}, accepted {accepted}, refused {refused}")?;
-        self.tell_holdings(rt)?;
-        for published in self.published.as_slice() {
-            let number = published.at.saturating_add(1);
-            let seat = published.seat.0;
-            let passage = published.passage.0;
-            let note = Note {
-                lead: ": ",
-                text: note_of(script, text, published.at),
-            };
-            println!(rt; "published: call {number}, seat {seat}, passage {passage}{note}")?;
+    // How many seats hold now.
+    fn holders(&self) -> usize {
+        self.courses
+            .iter()
+            .filter(|course| course.record.state == State::Holding)
+            .count()
+    }
+
+    // Tells the summary of the calls that were made.
+    pub fn tell(&self, rt: &HostRuntime) -> anyhow::Result<()> {
+        let refused = self.calls.saturating_sub(self.accepted);
+        println!(rt;
+            "calls: {}, accepted {}, refused {refused}",
+            self.calls, self.accepted
+        )?;
+        for holding in &self.holdings {
+            println!(rt; "{holding}")?;
+        }
+        let times = self.holdings.len();
+        println!(rt; "holdings: {times}, at most {} at once", self.most_holders)?;
+        for published in &self.published {
+            println!(rt; "{published}")?;
         }
         self.tell_counts(rt)
     }
 
-    // Tells who held when.
-    fn tell_holdings(&self, rt: &HostRuntime) -> anyhow::Result<()> {
-        for holding in self.holdings.as_slice() {
-            let seat = holding.seat.0;
-            let passage = holding.passage.0;
-            let from = holding.from.saturating_add(1);
-            match holding.till {
-                Some(till) => {
-                    let till = till.saturating_add(1);
-                    println!(rt;
-                        "held: seat {seat}, passage {passage}, from call {from} to call {till}"
-                    )?;
-                }
-                None => println!(rt;
-                    "held: seat {seat}, passage {passage}, from call {from} to the end"
-                )?,
-            }
-        }
-        let times = self.holdings.len();
-        let most = self.most_holders;
-        println!(rt; "holdings: {times}, at most {most} at once")?;
-        Ok(())
-    }
-
     // Tells what happened at the gates, the refusals by number, and the longest ways out.
     fn tell_counts(&self, rt: &HostRuntime) -> anyhow::Result<()> {
-        for (event, count) in EVENTS.iter().zip(&self.events) {
+        for event in Event::ALL {
+            let count = self.events.get(&event).copied().unwrap_or(0);
             println!(rt; "{event}: {count}")?;
         }
         for number in 1..11 {
@@ -202,8 +218,7 @@ impl Account {
                 println!(rt; "refused {number}: {count}")?;
             }
         }
-        let give_up = self.longest.give_up;
-        let leave = self.longest.leave;
+        let Longest { give_up, leave } = self.longest;
         println!(rt; "longest way out: {give_up} polls after a give-up, {leave} after a leave")?;
         Ok(())
     }

@@ -1,10 +1,11 @@
 // A random day: calls of a few busy seats, chosen by what a box in memory says of them.
 use crate::dice::Dice;
+use crate::plan::{CELLS, Plan, SEATS};
+use crate::turn::Turn;
 use anyhow::anyhow;
 use laws::Call;
 use layout::{BoxRecord, Passage, SeatId};
-use lock::{apply, give_up, leave, open, poll, publish};
-use script::Script;
+use lock::{Lock, open};
 use seats::{Place, Seat, State};
 use std::alloc::Global;
 use store::Memory;
@@ -18,7 +19,7 @@ const BUSY_4: [u8; 6] = [0, 1, 2, 3, 4, 16];
 
 #[derive(Drop)]
 pub struct Day {
-    gate: BoxRecord,
+    record: BoxRecord,
     words: Vec<u64>,
     table: Vec<Seat>,
     dice: Dice,
@@ -28,17 +29,16 @@ pub struct Day {
 impl Day {
     // A day without calls.
     pub fn new(heap: Global, ways: u8, seed: u64) -> anyhow::Result<Day> {
-        let mut words = vec![in heap; 0; 252]?;
-        let mut table = vec![in heap; Seat::away(); 64]?;
-        let Ok(gate) = open(
+        let mut words = vec![in heap; 0; CELLS]?;
+        let mut table = vec![in heap; Seat::away(); SEATS]?;
+        let record = open(
             ways,
             &mut Memory::new(words.as_mut_slice()),
             table.as_mut_slice(),
-        ) else {
-            return Err(anyhow!("the ways are not 2, 3 or 4"));
-        };
+        )
+        .map_err(|_| anyhow!("the ways are not 2, 3 or 4"))?;
         Ok(Day {
-            gate,
+            record,
             words,
             table,
             dice: Dice::new(seed),
@@ -46,22 +46,23 @@ impl Day {
         })
     }
 
-    // The day as a script, whose calls have no text.
-    pub fn script(self, heap: Global) -> Script {
-        Script {
-            ways: self.gate.ways(),
-            calls: self.calls,
-            starts: Vec::new(heap),
-        }
+    // The day as it is played, with calls that have no text.
+    pub fn plan(&self, heap: Global) -> anyhow::Result<Plan<'static>> {
+        Ok(Plan {
+            ways: self.record.ways(),
+            turns: self
+                .calls
+                .iter()
+                .map(|call| Turn::silent(*call))
+                .collect(heap)?,
+        })
     }
 
     // Adds a call, and makes it on the day's own box.
     pub fn add(&mut self) -> anyhow::Result<()> {
         let seat = self.busy();
-        let record = match self.table.get(usize::from(seat.0)) {
-            Some(record) => *record,
-            None => Seat::away(),
-        };
+        let record = self.table.get(usize::from(seat.0));
+        let record = record.copied().unwrap_or(Seat::away());
         let call = self.choose(seat, record);
         self.make(call);
         self.calls.push(call)?;
@@ -70,16 +71,14 @@ impl Day {
 
     // One of the busy seats.
     fn busy(&mut self) -> SeatId {
-        let seats: &[u8] = match self.gate.ways() {
+        let seats: &[u8] = match self.record.ways() {
             2 => &BUSY_2,
             3 => &BUSY_3,
             _ => &BUSY_4,
         };
         let at = self.dice.below(6);
-        match seats.get(usize::from(at) % seats.len().max(1)) {
-            Some(seat) => SeatId(*seat),
-            None => SeatId(0),
-        }
+        let seat = seats.get(usize::from(at) % seats.len().max(1));
+        SeatId(seat.copied().unwrap_or(0))
     }
 
     // A call that suits a seat, and now and then one that does not.
@@ -132,44 +131,24 @@ impl Day {
             return any;
         }
         match self.count(seat, record.height) {
-            Some(0) => 0,
-            Some(1) => 1,
-            Some(2) => 2,
+            Some(count @ 0..=2) => count as u8,
             _ => any,
         }
     }
 
     // Count of the gate that a seat meets at a height.
     fn count(&self, seat: SeatId, height: u8) -> Option<u64> {
-        let meeting = self.gate.path(seat)?.meets(height)?;
+        let meeting = self.record.path(seat)?.meets(height)?;
         self.words.get(usize::from(meeting.base)).copied()
     }
 
     // Makes a call on the day's own box. What it answers shows in the record of its seat.
     fn make(&mut self, call: Call) {
-        let gate = &mut self.gate;
-        let store = &mut Memory::new(self.words.as_mut_slice());
-        let table = self.table.as_mut_slice();
-        match call {
-            Call::Apply { seat } => {
-                let _ = apply(gate, store, table, seat);
-            }
-            Call::Poll {
-                seat,
-                passage,
-                coin,
-            } => {
-                let _ = poll(gate, store, table, seat, passage, coin);
-            }
-            Call::GiveUp { seat, passage } => {
-                let _ = give_up(gate, store, table, seat, passage);
-            }
-            Call::Leave { seat, passage } => {
-                let _ = leave(gate, store, table, seat, passage);
-            }
-            Call::Publish { seat, passage } => {
-                let _ = publish(gate, store, table, seat, passage);
-            }
-        }
+        let mut lock = Lock {
+            record: &mut self.record,
+            store: &mut Memory::new(self.words.as_mut_slice()),
+            table: self.table.as_mut_slice(),
+        };
+        let _ = call.make(&mut lock);
     }
 }

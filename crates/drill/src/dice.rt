@@ -32,7 +32,6 @@ impl Dice {
 
     // One of the numbers below a count, 0 for a count of 0.
     pub fn below(&mut self, count: u8) -> u8 {
-        let roll = self.roll();
-        if count == 0 { 0 } else { roll % count }
+        self.roll().checked_rem(count).unwrap_or(0)
     }
 }

@@ -1,3 +1,2 @@
-pub mod WordLaws
 pub mod FieldLaws
-pub mod ScriptLaws
+pub mod RowLaws

@@ -4,4 +4,5 @@ pub mod Lines
 pub mod Outs
 pub mod Events
 pub mod Counts
+pub mod Rows
 pub mod Scripts

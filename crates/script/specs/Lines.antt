@@ -5,29 +5,30 @@
 --     end_of t    whether t has no word
 --     line_of t   what the line t says, or what is wrong with it
 --     note_of t   the text of the publish t
-use Rattle.std.specs.Prelude.{ℕ, cond, List, length, take, Some, None, Ok, Err, codes, Option, Result, ◌==◌}
+use Rattle.std.specs.Prelude.{ℕ, cond, List, length, Some, None, Ok, Err, codes, Option, Result, ◌==◌}
+use Rattle.std.specs.List.{take_while}
+use Rattle.std.specs.Str.{bytes_eq}
 use Rattle.laws.specs.declared.call.Call.{Call}
 use Rattle.laws.specs.declared.call.Call.TheVariants as call
 use Rattle.script.specs.declared.fault.LineFault.{LineFault}
 use Rattle.script.specs.declared.fault.LineFault.TheVariants.{Unknown, TooMany}
 use Rattle.script.specs.declared.line.Line.{Line}
 use Rattle.script.specs.declared.line.Line.TheVariants as line
-use Rattle.script.specs.declared.lines.Own.{Own}
 use Rattle.script.specs.declared.part.Part.TheVariants as part
+use Rattle.script.specs.declared.reader.Own.{Own}
 use Rattle.script.specs.declared.verb.Verb.{Verb}
 use Rattle.script.specs.declared.verb.Verb.TheVariants as verb
-use Rattle.script.specs.declared.words.Kind.TheVariants.{Note}
 use Rattle.script.specs.Fields.{field_of, onward, times_of}
-use Rattle.script.specs.Words.{indented_of, inked_of, leading_of, rest_of, same_of, word_of}
+use Rattle.script.specs.Words.{indented_of, is_note_byte, rest_of, trimmed_of, word_of}
 
 abbrev pub verb_of : List ℕ → Option Verb
 verb_of w =
-    cond (same_of w (codes "ways")) (Some verb.Ways)
-    (cond (same_of w (codes "apply")) (Some verb.Apply)
-    (cond (same_of w (codes "poll")) (Some verb.Poll)
-    (cond (same_of w (codes "give-up")) (Some verb.GiveUp)
-    (cond (same_of w (codes "leave")) (Some verb.Leave)
-    (cond (same_of w (codes "publish")) (Some verb.Publish) None)))))
+    cond (bytes_eq w (codes "ways")) (Some verb.Ways)
+    (cond (bytes_eq w (codes "apply")) (Some verb.Apply)
+    (cond (bytes_eq w (codes "poll")) (Some verb.Poll)
+    (cond (bytes_eq w (codes "give-up")) (Some verb.GiveUp)
+    (cond (bytes_eq w (codes "leave")) (Some verb.Leave)
+    (cond (bytes_eq w (codes "publish")) (Some verb.Publish) None)))))
 
 abbrev pub own_of : List ℕ → Result Own LineFault
 own_of t = onward (field_of part.Seat (word_of t)) (λ p. onward (field_of part.Passage (word_of (rest_of t))) (λ n. Ok (record { seat = record { 0 = p }; passage = record { 0 = n } })))
@@ -77,11 +78,7 @@ line_of t = cond (length (word_of t) == 0) (Ok line.Blank) (verb_line (verb_of (
 
 -- a text up to a comment
 abbrev pub uncommented : List ℕ → List ℕ
-uncommented t = take (leading_of Note t) t
-
--- a text without the blanks that it ends with
-abbrev pub trimmed : List ℕ → List ℕ
-trimmed t = take (inked_of t) t
+uncommented t = take_while is_note_byte t
 
 abbrev pub note_of : List ℕ → List ℕ
-note_of t = trimmed (uncommented (indented_of (past_two (rest_of t))))
+note_of t = trimmed_of (uncommented (indented_of (past_two (rest_of t))))

@@ -5,7 +5,7 @@ use seats::Place;
 use std::fmt;
 
 // What a poll may make of a seat at its gate.
-#[derive(Clone, Copy, PartialEq, Eq, Debug)]
+#[derive(Clone, Copy, PartialEq, Eq, PartialOrd, Ord, Debug)]
 pub enum Event {
     King,
     Queen,
@@ -16,6 +16,16 @@ pub enum Event {
 }
 
 impl Event {
+    // All of them, in the order in which they are told.
+    pub const ALL: [Event; 6] = [
+        Event::King,
+        Event::Queen,
+        Event::Pawn,
+        Event::Promoted,
+        Event::HandedOver,
+        Event::QueenGaveUp,
+    ];
+
     // What an accepted poll made of a seat that it took from one place to another.
     pub fn between(before: Place, after: Place) -> Option<Event>
         ensures { result ≡ event_of before after }

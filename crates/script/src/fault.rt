@@ -1,4 +1,3 @@
-use crate::fields::most;
 use crate::part::Part;
 use std::fmt;
 
@@ -23,10 +22,7 @@ impl fmt::Display for LineFault {
             LineFault::Unknown => f.pad("no such call"),
             LineFault::Missing(part) => write!(f, "the {part} is missing"),
             LineFault::NoNumber(part) => write!(f, "the {part} is not a number"),
-            LineFault::TooLarge(part) => {
-                let most = most(*part);
-                write!(f, "the {part} is larger than {most}")
-            }
+            LineFault::TooLarge(part) => write!(f, "the {part} is larger than {}", part.most()),
             LineFault::TooMany => f.pad("too many words"),
         }
     }

@@ -4,34 +4,22 @@ ghost use Rattle.script.specs.Fields.{digit_of, field_of, most_of, times_of};
 use crate::fault::LineFault;
 use crate::part::Part;
 
-// The largest number that is taken.
-pub(crate) fn most(part: Part) -> u16
-    ensures { result ≡ most_of part }
-{
-    match part {
-        Part::Ways | Part::Seat | Part::Coin => 255,
-        Part::Passage => 65535,
-        Part::Times => 9999,
-    }
-}
-
 // A number with one decimal digit more.
 fn longer(value: u16, byte: u8, part: Part) -> Result<u16, LineFault>
-    requires { value ≤ most_of part }
-    ensures value { result ≡ digit_of part value byte }
-    ensures bound { IfOk result (λ n. n ≤ most_of part) }
+    ensures { result ≡ digit_of part value byte }
 {
-    if byte < b'0' || byte > b'9' {
+    if !byte.is_ascii_digit() {
         return Err(LineFault::NoNumber(part));
     }
     let more = 10 * u32::from(value) + u32::from(byte - b'0');
-    if more > u32::from(most(part)) {
+    if more > u32::from(part.most()) {
         return Err(LineFault::TooLarge(part));
     }
     Ok(more as u16)
 }
 
 // The number that a word of decimal digits says.
+#[tactic(auto, using(crate::proofs::FieldLaws::digits_step), unfolding(crate::specs::Fields::field_of))]
 pub(crate) fn field(word: &[u8], part: Part) -> Result<u16, LineFault>
     ensures value { result ≡ field_of part word.now }
     ensures bound { IfOk result (λ n. n ≤ most_of part) }
@@ -40,8 +28,8 @@ pub(crate) fn field(word: &[u8], part: Part) -> Result<u16, LineFault>
         return Err(LineFault::Missing(part));
     }
     let mut value = 0;
-    for at in 0..word.len() {
-        value = longer(value, word[at], part)?;
+    for byte in word {
+        value = longer(value, *byte, part)?;
     }
     Ok(value)
 }
@@ -50,12 +38,9 @@ pub(crate) fn field(word: &[u8], part: Part) -> Result<u16, LineFault>
 pub(crate) fn times(word: &[u8]) -> Result<u16, LineFault>
     ensures { result ≡ times_of word.now }
 {
-    if word.is_empty() {
-        return Ok(1);
+    match word {
+        [] => Ok(1),
+        [b'x', digits @ ..] => field(digits, Part::Times),
+        _ => Err(LineFault::TooMany),
     }
-    if word[0] != b'x' {
-        return Err(LineFault::TooMany);
-    }
-    let (_, digits) = word.split_at(1);
-    field(digits, Part::Times)
 }

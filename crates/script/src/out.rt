@@ -59,7 +59,7 @@ fn left(polls: u32, state: State) -> Out
 }
 
 // The most accepted polls on a way out, after a give-up and after a leave.
-#[derive(Clone, Copy)]
+#[derive(Clone, Copy, Default)]
 pub struct Longest {
     pub give_up: u32,
     pub leave: u32,

@@ -1,3 +1,6 @@
+ghost use Rattle.std.specs.Prelude.{◌≡◌};
+ghost use Rattle.script.specs.Fields.{most_of};
+
 use std::fmt;
 
 // What a number in a script says.
@@ -8,6 +11,19 @@ pub enum Part {
     Passage,
     Coin,
     Times,
+}
+
+impl Part {
+    // The largest number that is taken.
+    pub(crate) fn most(self) -> u16
+        ensures { result ≡ most_of self }
+    {
+        match self {
+            Part::Ways | Part::Seat | Part::Coin => 255,
+            Part::Passage => 65535,
+            Part::Times => 9999,
+        }
+    }
 }
 
 impl fmt::Display for Part {

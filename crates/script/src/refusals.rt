@@ -4,6 +4,7 @@ ghost use Rattle.script.specs.Counts.{count_of, counted_of};
 // How many calls were refused, by the number of the refusal, which is 1 to 10.
 #[derive(Clone, Copy)]
 pub struct Refusals {
+    // a map would allocate, and `add` cannot fail
     counts: [u32; 11],
 }
 
@@ -19,8 +20,9 @@ impl Refusals {
     pub fn add(&mut self, number: u8)
         ensures { self.new.counts ≡ counted_of self.old.counts number }
     {
-        if number < 11 {
-            let at = usize::from(number);
+        let at = usize::from(number);
+        // tried `get_mut`: a proof then knows the array's length, and none of its counts
+        if at < self.counts.len() {
             self.counts[at] = self.counts[at].saturating_add(1);
         }
     }
@@ -29,10 +31,6 @@ impl Refusals {
     pub fn with(&self, number: u8) -> u32
         ensures { result ≡ count_of self.now.counts number }
     {
-        if number < 11 {
-            self.counts[usize::from(number)]
-        } else {
-            0
-        }
+        self.counts.get(usize::from(number)).copied().unwrap_or(0)
     }
 }

@@ -1,25 +1,34 @@
-ghost use Rattle.std.specs.Prelude.{◌≡◌, min, ◌++◌, length, drop, Ok, Err, MatchResult, OnOk};
+ghost use Rattle.std.specs.Prelude.{◌≡◌, min, length, drop, Ok, Err, MatchResult};
 ghost use Rattle.script.specs.declared.scripts.ScriptFault.TheVariants.{Memory};
 ghost use Rattle.script.specs.Words.{row_of};
 ghost use Rattle.script.specs.Lines.{line_of, note_of};
-ghost use Rattle.script.specs.Scripts.{calls_of, ended_of, gathered, or_memory, script_of, script_taken, starts_of, step_of, next_ways};
+ghost use Rattle.script.specs.Rows.{placed_of};
+ghost use Rattle.script.specs.Scripts.{ended_of, gathered, or_memory, script_of, script_taken, step_of, next_ways};
 
 use crate::fault::LineFault;
 use crate::line::Line;
 use crate::lines::{note_of, read_line};
-use crate::words::first_row;
+use crate::rows::{Row, Rows};
+use crate::words::{first_row, from_place};
 use laws::Call;
 use std::alloc::{AllocError, Global};
 use std::error::Error;
 use std::fmt;
+use std::iter::repeat_n;
+
+// A call of a script.
+#[derive(Clone, Copy)]
+pub struct Entry {
+    pub call: Call,
+    // where in the text the line of the call begins
+    pub start: usize,
+}
 
 // A script: the ways of its box, and its calls in order.
 #[derive(Drop)]
 pub struct Script {
     pub ways: u8,
-    pub calls: Vec<Call>,
-    // where in the text the line of each call begins
-    pub starts: Vec<usize>,
+    pub entries: Vec<Entry>,
 }
 
 // Why a text is no script.
@@ -63,8 +72,7 @@ impl From<AllocError> for ScriptFault {
 #[derive(Drop)]
 pub(crate) struct Reading {
     ways: Option<u8>,
-    calls: Vec<Call>,
-    starts: Vec<usize>,
+    entries: Vec<Entry>,
 }
 
 // Reads a script from its text.
@@ -73,54 +81,40 @@ pub fn read_script(heap: Global, text: &[u8]) -> Result<Script, ScriptFault>
 {
     let mut reading = Reading {
         ways: None,
-        calls: Vec::new(heap),
-        starts: Vec::new(heap),
+        entries: Vec::new(heap),
     };
-    let mut at = 0;
-    for row in 0..text.len() {
-        if at >= text.len() {
-            break;
-        }
-        let (_, rest) = text.split_at(at);
-        let line = first_row(rest);
-        reading.take(row + 1, at, line)?;
-        at += line.len() + 1;
+    for row in Rows::of(text) {
+        reading.take(row)?;
     }
     reading.end()
 }
 
 impl Reading {
-    // Takes a line, by its number and where in the text it begins.
-    fn take(&mut self, row: usize, at: usize, line: &[u8]) -> Result<(), ScriptFault>
-        ensures { MatchResult result (λ _. step_of row at (gathered self.old) (line_of line.now) ≡ Ok (gathered self.new)) (λ e. or_memory e (step_of row at (gathered self.old) (line_of line.now) ≡ Err e)) }
+    // Takes a row.
+    fn take(&mut self, row: Row<'_>) -> Result<(), ScriptFault>
+        ensures { MatchResult result (λ _. step_of (placed_of row.entry) (gathered self.old) (line_of row.entry.line.now) ≡ Ok (gathered self.new)) (λ e. or_memory e (step_of (placed_of row.entry) (gathered self.old) (line_of row.entry.line.now) ≡ Err e)) }
     {
-        match read_line(line) {
-            Ok(said) => {
-                self.ways = ways_after(self.ways, said, row)?;
-                add(&mut self.calls, &mut self.starts, said, at)?;
-                Ok(())
-            }
-            Err(fault) => Err(ScriptFault::Wrong { row, fault }),
+        let Row {
+            number,
+            start,
+            line,
+        } = row;
+        let said = read_line(line).map_err(|fault| ScriptFault::Wrong { row: number, fault })?;
+        self.ways = ways_after(self.ways, said, number)?;
+        if let Line::Calls { call, times } = said {
+            self.entries
+                .extend(repeat_n(Entry { call, start }, usize::from(times)))?;
         }
+        Ok(())
     }
 
     // The script, when all of it has been read.
     fn end(self) -> Result<Script, ScriptFault>
         ensures { MatchResult result (λ s. ended_of (gathered self) ≡ Ok (script_taken s)) (λ e. ended_of (gathered self) ≡ Err e) }
     {
-        let Reading {
-            ways,
-            calls,
-            starts,
-        } = self;
-        match ways {
-            Some(ways) => Ok(Script {
-                ways,
-                calls,
-                starts,
-            }),
-            None => Err(ScriptFault::NoWays),
-        }
+        let Reading { ways, entries } = self;
+        let ways = ways.ok_or(ScriptFault::NoWays)?;
+        Ok(Script { ways, entries })
     }
 }
 
@@ -137,28 +131,10 @@ fn ways_after(ways: Option<u8>, said: Line, row: usize) -> Result<Option<u8>, Sc
     }
 }
 
-// Adds the calls of a line that begins at a place of the text.
-fn add(
-    calls: &mut Vec<Call>,
-    starts: &mut Vec<usize>,
-    said: Line,
-    at: usize,
-) -> Result<(), AllocError>
-    ensures { OnOk result ((calls.new.items ≡ calls.old.items ++ calls_of said) × (starts.new.items ≡ starts.old.items ++ starts_of said at)) }
-{
-    if let Line::Calls { call, times } = said {
-        for _k in 0..times {
-            calls.push(call)?;
-            starts.push(at)?;
-        }
-    }
-    Ok(())
-}
-
 // The text of the publish whose line begins at a place of the script's text.
+#[tactic(auto, using(std::proofs::lemmas::List::drop_min))]
 pub fn note_at(text: &[u8], start: usize) -> &[u8]
     ensures { result.now ≡ note_of (row_of (drop (min start (length text.now)) text.now)) }
 {
-    let (_, rest) = text.split_at(start.min(text.len()));
-    note_of(first_row(rest))
+    note_of(first_row(from_place(text, start)))
 }

@@ -1,8 +1,6 @@
 ghost use Rattle.std.specs.Prelude.{◌≡◌};
 ghost use Rattle.script.specs.Lines.{verb_of};
 
-use crate::words::same;
-
 // What a line does, by its first word.
 #[derive(Clone, Copy)]
 pub(crate) enum Verb {
@@ -19,20 +17,14 @@ impl Verb {
     pub(crate) fn named(word: &[u8]) -> Option<Verb>
         ensures { result ≡ verb_of word.now }
     {
-        if same(word, b"ways") {
-            Some(Verb::Ways)
-        } else if same(word, b"apply") {
-            Some(Verb::Apply)
-        } else if same(word, b"poll") {
-            Some(Verb::Poll)
-        } else if same(word, b"give-up") {
-            Some(Verb::GiveUp)
-        } else if same(word, b"leave") {
-            Some(Verb::Leave)
-        } else if same(word, b"publish") {
-            Some(Verb::Publish)
-        } else {
-            None
+        match word {
+            b"ways" => Some(Verb::Ways),
+            b"apply" => Some(Verb::Apply),
+            b"poll" => Some(Verb::Poll),
+            b"give-up" => Some(Verb::GiveUp),
+            b"leave" => Some(Verb::Leave),
+            b"publish" => Some(Verb::Publish),
+            _ => None,
         }
     }
 }

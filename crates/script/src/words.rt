@@ -1,102 +1,75 @@
-ghost use Rattle.std.specs.Prelude.{◌≡◌, ◌≤◌, length, if◌then◌else◌};
-ghost use Rattle.script.specs.Words.{indented_of, inked_of, is_blank_byte, is_kind, leading_of, rest_of, row_of, same_of, word_of};
+ghost use Rattle.std.specs.Prelude.{◌≡◌, ℕ, Bool, take, drop};
+ghost use Rattle.std.specs.List.{prefix_len};
+ghost use Rattle.script.specs.Words.{Computes, indented_of, is_blank_byte, is_letter_byte, is_note_byte, rest_of, row_of, trimmed_of, word_of};
 
-// A kind of bytes.
-#[derive(Clone, Copy)]
-pub(crate) enum Kind {
-    // spaces, tabs and carriage returns
-    Blank,
-    // what a word consists of: neither blanks nor `#`
-    Letter,
-    // what a note consists of: all but `#` and carriage returns
-    Note,
-    // what a row consists of: all but line feeds
-    Row,
-}
-
-impl Kind {
-    // Whether a byte is of the kind.
-    fn has(self, byte: u8) -> bool
-        ensures { result ≡ is_kind self byte }
-    {
-        let blank = byte == b' ' || byte == b'\t' || byte == b'\r';
-        match self {
-            Kind::Blank => blank,
-            Kind::Letter => !blank && byte != b'#',
-            Kind::Note => byte != b'#' && byte != b'\r',
-            Kind::Row => byte != b'\n',
-        }
-    }
-}
-
-// How many bytes of a kind a text begins with.
-pub(crate) fn leading(text: &[u8], kind: Kind) -> usize
-    ensures value { result ≡ leading_of kind text.now }
-    ensures bound { result ≤ length text.now }
+// Whether a byte is a space, a tab or a carriage return.
+pub(crate) fn is_blank(byte: u8) -> bool
+    ensures { result ≡ is_blank_byte byte }
 {
-    for at in 0..text.len() {
-        if !kind.has(text[at]) {
-            return at;
-        }
-    }
-    text.len()
+    matches!(byte, b' ' | b'\t' | b'\r')
 }
 
-// How many bytes a text has up to its last one that is not blank.
-pub(crate) fn inked(text: &[u8]) -> usize
-    ensures value { result ≡ inked_of text.now }
-    ensures bound { result ≤ length text.now }
+// Whether a word goes on with a byte: it is neither blank nor `#`.
+pub(crate) fn is_letter(byte: u8) -> bool
+    ensures { result ≡ is_letter_byte byte }
 {
-    let mut end = 0;
-    for at in 0..text.len() {
-        end = later(end, at + 1, text[at]);
-    }
-    end
+    !is_blank(byte) && byte != b'#'
 }
 
-// The end of the bytes that are not blank: the next one if this byte is not.
-fn later(end: usize, next: usize, byte: u8) -> usize
-    ensures { result ≡ (if is_blank_byte byte then end else next) }
+// Whether a note goes on with a byte: it is neither `#` nor a carriage return.
+pub(crate) fn is_note(byte: u8) -> bool
+    ensures { result ≡ is_note_byte byte }
 {
-    if Kind::Blank.has(byte) { end } else { next }
+    !matches!(byte, b'#' | b'\r')
+}
+
+// A text, cut before its first byte that does not pass a test.
+pub(crate) fn cut<F: Fn(u8) -> bool>(text: &[u8], passes: F) -> (&[u8], &[u8])
+    requires { F.IsAlwaysCallable passes }
+    ensures { (test : ℕ → Bool) → Computes (F.post passes) test → let front = prefix_len test text.now in (result.0.now ≡ take front text.now) × (result.1.now ≡ drop front text.now) }
+{
+    let front = text.iter().take_while(|byte| passes(**byte)).count();
+    text.split_at(front)
+}
+
+// A text from a place on, empty where it is shorter.
+pub(crate) fn from_place(text: &[u8], place: usize) -> &[u8]
+    ensures { result.now ≡ drop place text.now }
+{
+    text.get(place..).unwrap_or(&[])
 }
 
 // A text without the blanks that it begins with.
 pub(crate) fn indented(text: &[u8]) -> &[u8]
     ensures { result.now ≡ indented_of text.now }
 {
-    let (_, rest) = text.split_at(leading(text, Kind::Blank));
-    rest
+    cut(text, is_blank).1
+}
+
+// A text without the blanks that it ends with.
+pub(crate) fn trimmed(text: &[u8]) -> &[u8]
+    ensures { result.now ≡ trimmed_of text.now }
+{
+    let blanks = text
+        .iter()
+        .rev()
+        .take_while(|byte| is_blank(**byte))
+        .count();
+    &text[..text.len() - blanks]
 }
 
 // The first word of a text, and the text behind it. The word is empty where the text has none.
+#[tactic(auto, unfolding(crate::specs::Words::word_of, crate::specs::Words::rest_of))]
 pub(crate) fn first_word(text: &[u8]) -> (&[u8], &[u8])
     ensures word { result.0.now ≡ word_of text.now }
     ensures rest { result.1.now ≡ rest_of text.now }
 {
-    let text = indented(text);
-    text.split_at(leading(text, Kind::Letter))
-}
-
-// Whether two texts are the same.
-pub(crate) fn same(a: &[u8], b: &[u8]) -> bool
-    ensures { result ≡ same_of a.now b.now }
-{
-    if a.len() != b.len() {
-        return false;
-    }
-    for at in 0..a.len() {
-        if a[at] != b[at] {
-            return false;
-        }
-    }
-    true
+    cut(indented(text), is_letter)
 }
 
 // The first row of a text: what stands before its first line feed.
 pub(crate) fn first_row(text: &[u8]) -> &[u8]
     ensures { result.now ≡ row_of text.now }
 {
-    let (row, _) = text.split_at(leading(text, Kind::Row));
-    row
+    cut(text, |byte| byte != b'\n').0
 }

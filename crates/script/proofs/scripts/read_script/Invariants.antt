@@ -1,9 +1,7 @@
-use Rattle.std.proofs.Common.{◌≡◌, ◌+◌, ◌≤◌, [], length, drop, None}
-use Rattle.script.specs.Scripts.{gather, gathered, rows_of}
+use Rattle.std.proofs.Common.{◌≡◌}
+use Rattle.script.specs.Rows.{placed, rows_left, rows_of}
+use Rattle.script.specs.Scripts.{gather, gathered, nothing}
 use Rattle.script.proofs.scripts.read_script.Given as goal
 
 abbrev pub invariant-loop-row : goal.invariant-loop-row
-invariant-loop-row l =
-    (gather (l.row + 1) l.at (gathered l.reading) (rows_of (drop l.at l.text)) ≡ gather 1 0 (record { ways = None; calls = []; starts = [] }) (rows_of l.text))
-    × (l.row ≤ l.at)
-    × (l.at ≤ length l.text + 1)
+invariant-loop-row l = gather (gathered l.reading) (rows_left l.row-iterator) ≡ gather nothing (placed 1 0 (rows_of l.text))
