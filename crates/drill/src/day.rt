@@ -127,7 +127,7 @@ impl Day {
     // The coin that wins a role at the gate where the seat stands, or any.
     fn coin(&mut self, seat: SeatId, record: Seat) -> u8 {
         let any = self.dice.below(3);
-        if !matches!(record.place, Place::RaceForRole) || self.dice.lucky(64) {
+        if record.place != Place::RaceForRole || self.dice.lucky(64) {
             return any;
         }
         match self.count(seat, record.height) {

@@ -13,6 +13,7 @@ fn main(rt: HostRuntime) -> anyhow::Result<()> {
 // Writes every block back before it waits for the next one.
 fn run(rt: &HostRuntime) -> anyhow::Result<()> {
     let mut block = vec![in rt.alloc(); 0; BLOCK]?;
+    // a count and no `loop`: no proof can know that the input ends
     for _ in 0..u64::MAX {
         let count = rt.stdin().read(block.as_mut_slice())?;
         if count == 0 {

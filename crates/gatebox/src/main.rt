@@ -34,7 +34,7 @@ fn serve<S: Store>(rt: &HostRuntime, lock: &mut Lock<'_, S>) -> anyhow::Result<(
     let mut block = vec![in rt.alloc(); 0; BLOCK]?;
     let mut replies = vec![in rt.alloc(); 0; BLOCK]?;
     let mut input: Vec<u8> = Vec::new(rt.alloc());
-    // a count and no `loop`: input has no end that a proof could know, and a loop without one would have to wait
+    // a count and no `loop`, here and below: no proof can know that the input ends
     for _ in 0..u64::MAX {
         let count = rt.stdin().read(block.as_mut_slice())?;
         input.extend_from_slice(&block.as_slice()[..count])?;

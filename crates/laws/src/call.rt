@@ -8,7 +8,8 @@ use lock::Lock;
 use seats::Seat;
 use store::Store;
 
-// A call that changes a box, or may.
+// A call that changes a box, or may. Seat and passage stay two: the law matches on calls, and would take a pair apart
+// at once.
 #[derive(Clone, Copy)]
 pub enum Call {
     Apply {
@@ -71,6 +72,7 @@ impl Call {
 // record of its seat afterwards, an away one where there is no such seat.
 #[derive(Clone, Copy)]
 pub struct Got {
+    // a number, as the law has it: which of the two it is says the call
     pub answer: Result<u16, Refusal>,
     pub seat: Seat,
 }

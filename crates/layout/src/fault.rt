@@ -1,5 +1,5 @@
 ghost use Rattle.std.specs.Prelude.{◌≡◌};
-ghost use Rattle.layout.specs.Refusals.{refusal_of};
+ghost use Rattle.layout.specs.Refusals.{refusal, refusal_of};
 ghost use Rattle.layout.specs.declared.fault.BoxFault.TheVariants.{Store};
 
 use crate::ids::SeatId;
@@ -8,10 +8,25 @@ use store::StoreFault;
 // A refusal as it is told: its number, the seat that the call names, and for an unfit word the height and the cell.
 #[derive(Clone, Copy, PartialEq, Eq, Debug)]
 pub struct Refusal {
+    // a number, as it is told: which fault it is says `BoxFault`
     pub number: u8,
     pub seat: SeatId,
     pub height: u8,
     pub cell: u16,
+}
+
+impl Refusal {
+    // A refusal that names no height and no cell.
+    pub fn plain(number: u8, seat: SeatId) -> Refusal
+        ensures { result ≡ refusal number seat.0 }
+    {
+        Refusal {
+            number,
+            seat,
+            height: 0,
+            cell: 0,
+        }
+    }
 }
 
 // Why the box refuses a call: the question that was answered by no.
@@ -47,35 +62,23 @@ impl From<BoxFault> for Refusal {
 
     fn from(fault: BoxFault) -> Refusal {
         match fault {
-            BoxFault::Ways => plain(1, SeatId(0)),
-            BoxFault::FewCells(seat) => plain(2, seat),
-            BoxFault::FewSeats(seat) => plain(3, seat),
-            BoxFault::NoSeat(seat) => plain(4, seat),
-            BoxFault::Unlawful(seat) => plain(5, seat),
-            BoxFault::Foreign(seat) => plain(6, seat),
-            BoxFault::WrongState(seat) => plain(7, seat),
-            BoxFault::Spent(seat) => plain(8, seat),
-            BoxFault::BadCoin(seat) => plain(9, seat),
+            BoxFault::Ways => Refusal::plain(1, SeatId(0)),
+            BoxFault::FewCells(seat) => Refusal::plain(2, seat),
+            BoxFault::FewSeats(seat) => Refusal::plain(3, seat),
+            BoxFault::NoSeat(seat) => Refusal::plain(4, seat),
+            BoxFault::Unlawful(seat) => Refusal::plain(5, seat),
+            BoxFault::Foreign(seat) => Refusal::plain(6, seat),
+            BoxFault::WrongState(seat) => Refusal::plain(7, seat),
+            BoxFault::Spent(seat) => Refusal::plain(8, seat),
+            BoxFault::BadCoin(seat) => Refusal::plain(9, seat),
             BoxFault::Unfit { seat, height, cell } => Refusal {
                 number: 10,
                 seat,
                 height,
                 cell,
             },
-            BoxFault::Store(fault) => plain(fault.number(), SeatId(0)),
+            BoxFault::Store(fault) => Refusal::plain(fault.number(), SeatId(0)),
         }
-    }
-}
-
-// A refusal that names no height and no cell.
-fn plain(number: u8, seat: SeatId) -> Refusal
-    ensures { result ≡ record { number = number; seat = seat; height = 0; cell = 0 } }
-{
-    Refusal {
-        number,
-        seat,
-        height: 0,
-        cell: 0,
     }
 }
 

@@ -1,4 +1,5 @@
 ghost use Rattle.std.specs.Prelude.{◌≡◌};
+ghost use Rattle.layout.specs.Refusals.{refusal};
 ghost use Rattle.line.specs.Faults.{told_to};
 ghost use Rattle.line.specs.declared.fault.LineFault.TheVariants.{Box};
 
@@ -50,16 +51,11 @@ impl LineFault {
 
 // A refusal that names no seat.
 fn unnamed(kind: u8, number: u8) -> LineRefusal
-    ensures { result ≡ record { kind = kind; refusal = record { number = number; seat = record { 0 = 0 }; height = 0; cell = 0 } } }
+    ensures { result ≡ record { kind = kind; refusal = refusal number 0 } }
 {
     LineRefusal {
         kind,
-        refusal: Refusal {
-            number,
-            seat: SeatId(0),
-            height: 0,
-            cell: 0,
-        },
+        refusal: Refusal::plain(number, SeatId(0)),
     }
 }
 

@@ -24,7 +24,7 @@ impl<S: Store> Lock<'_, S> {
         ensures loans { SameLoans self.old self.new }
     {
         let found = self.enter(seat)?;
-        if !matches!(found.state, State::Away) {
+        if found.state != State::Away {
             return Err(BoxFault::WrongState(seat));
         }
         let Some(passage) = self.record.issue() else {
@@ -40,7 +40,7 @@ impl<S: Store> Lock<'_, S> {
         ensures loans { SameLoans self.old self.new }
     {
         let found = self.enter_own(seat, passage)?;
-        if !matches!(found.state, State::Climbing) || found.gave_up {
+        if found.state != State::Climbing || found.gave_up {
             return Err(BoxFault::WrongState(seat));
         }
         let after = abandon(found);
@@ -54,7 +54,7 @@ impl<S: Store> Lock<'_, S> {
         ensures loans { SameLoans self.old self.new }
     {
         let found = self.enter_own(seat, passage)?;
-        if !matches!(found.state, State::Holding) {
+        if found.state != State::Holding {
             return Err(BoxFault::WrongState(seat));
         }
         self.table[usize::from(seat.0)] = Seat {
@@ -72,7 +72,7 @@ impl<S: Store> Lock<'_, S> {
         ensures loans { SameLoans self.old self.new }
     {
         let found = self.enter_own(seat, passage)?;
-        if !matches!(found.state, State::Holding) {
+        if found.state != State::Holding {
             return Err(BoxFault::WrongState(seat));
         }
         Ok(found.state)

@@ -31,6 +31,7 @@ fn clear_cells<S: Store>(store: &mut S, count: usize) -> Result<(), BoxFault>
     ensures answer { result ≡ Ok tt }
     ensures after { S.words store.new ≡ replicate count 0 ++ drop count (S.words store.old) }
 {
+    // by positions, since a store has no slice of its words
     for pos in 0..count {
         store.write(pos, 0)?;
     }

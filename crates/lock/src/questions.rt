@@ -41,7 +41,7 @@ impl<S: Store> Lock<'_, S> {
         ensures { MatchResult result (λ s. (own_refusal (state_in S.words self.now) seat.0 passage.0 ≡ None) × (s ≡ seat_at (state_in S.words self.now) seat.0) × (seat.0 < length self.now.table.now)) (λ e. own_refusal (state_in S.words self.now) seat.0 passage.0 ≡ Some (refusal_of e)) }
     {
         let found = self.enter(seat)?;
-        if matches!(found.state, State::Away) || found.passage.0 != passage.0 {
+        if found.state == State::Away || found.passage != passage {
             return Err(BoxFault::Foreign(seat));
         }
         Ok(found)

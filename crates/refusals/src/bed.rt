@@ -9,6 +9,7 @@ use store::Memory;
 // What a cell holds before the opening.
 const OLD: u64 = 7;
 
+// A call to try. It is no `laws::Call`: that one has no look, and its named fields would take five lines a call here.
 #[derive(Clone, Copy)]
 pub enum Call {
     Apply(SeatId),

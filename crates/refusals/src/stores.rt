@@ -27,7 +27,7 @@ fn at<S: Store>(rt: &HostRuntime, store: &mut S, pos: usize) -> anyhow::Result<(
     Ok(())
 }
 
-// The number of a refusal, or 0.
+// The number of a refusal, or 0, as it is printed.
 fn number<T: Drop>(answer: Result<T, StoreFault>) -> u8 {
     answer.err().map_or(0, StoreFault::number)
 }

@@ -81,7 +81,8 @@ fn poll_line(mut words: Reader<'_>) -> Result<Line, LineFault>
     Ok(Line::Calls { call, times })
 }
 
-// `give-up SEAT PASSAGE`, behind its first word.
+// `give-up SEAT PASSAGE`, behind its first word. It is no one function with the next: a contract over the constructor
+// that it would take is longer than either.
 fn give_up_line(mut words: Reader<'_>) -> Result<Line, LineFault>
     ensures { result ≡ give_up_line_answer words.entry.rest.now }
 {

@@ -69,7 +69,7 @@ impl Seat {
             2..=14 => !self.gave_up,
             16 => self.height <= self.aim,
             19..=32 => self.gave_up,
-            52..=70 => self.gave_up || !matches!(self.state, State::Climbing),
+            52..=70 => self.gave_up || self.state != State::Climbing,
             _ => true,
         }
     }

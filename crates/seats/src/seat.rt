@@ -23,7 +23,7 @@ pub struct Seat {
     pub handed: bool,
     // the way whose Apply it reads next
     pub scan: WayId,
-    // the passages that it has seen waiting, by way, 0 for none
+    // the passages that it has seen waiting, by way; 0 for none and no `Option`, since a table may hold any numbers here
     pub noted: [u16; 4],
     // the way and the number that it keeps for a later step
     pub kept_way: WayId,

@@ -19,6 +19,7 @@ pub fn read(line: &[u8], bytes: &mut Vec<u8>) -> Result<(), AllocError> {
     Ok(())
 }
 
+// A digit; std's `to_digit` would take capitals too, which are passed over here.
 fn digit(c: u8) -> Option<u8> {
     match c {
         b'0'..=b'9' => Some(c - b'0'),

@@ -40,7 +40,7 @@ impl<S: Store> Gate<'_, S> {
     }
 }
 
-// The number of the passage that waits by an Apply word, or 0.
+// The number of the passage that waits by an Apply word, or 0, as a seat notes it.
 fn waiting_number(word: u64) -> u16
     ensures { result ≡ waiting word }
 {

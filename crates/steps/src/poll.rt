@@ -61,7 +61,7 @@ fn ask(size: usize, seat: &Seat, path: Path, passage: Passage, coin: u8) -> Resu
     if !seat.lawful(path.ways()) {
         return Err(BoxFault::Unlawful(id));
     }
-    if matches!(seat.state, State::Away) || seat.passage.0 != passage.0 {
+    if seat.state == State::Away || seat.passage != passage {
         return Err(BoxFault::Foreign(id));
     }
     if !matches!(seat.state, State::Climbing | State::Leaving) {
