@@ -53,10 +53,7 @@ impl<S: Store> Lock<'_, S> {
         ensures settles { Settles (left (state_in S.words self.old) seat.0 passage.0) (told_as state_number result) (state_in S.words self.new) }
         ensures loans { SameLoans self.old self.new }
     {
-        let found = self.enter_own(seat, passage)?;
-        if found.state != State::Holding {
-            return Err(BoxFault::WrongState(seat));
-        }
+        let found = self.enter_holding(seat, passage)?;
         self.table[usize::from(seat.0)] = Seat {
             state: State::Leaving,
             place: Place::ReadRole,
@@ -71,10 +68,7 @@ impl<S: Store> Lock<'_, S> {
         ensures settles { Settles (published (state_in S.words self.old) seat.0 passage.0) (told_as state_number result) (state_in S.words self.new) }
         ensures loans { SameLoans self.old self.new }
     {
-        let found = self.enter_own(seat, passage)?;
-        if found.state != State::Holding {
-            return Err(BoxFault::WrongState(seat));
-        }
+        let found = self.enter_holding(seat, passage)?;
         Ok(found.state)
     }
 

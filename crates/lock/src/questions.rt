@@ -1,7 +1,8 @@
 ghost use Rattle.std.specs.Prelude.{◌≡◌, ◌<◌, ◌≤◌, length, Some, None, MatchResult};
 ghost use Rattle.layout.specs.Refusals.{refusal_of};
+ghost use Rattle.seats.specs.Places.{state_number};
 ghost use Rattle.lock.specs.Locks.{state_in};
-ghost use Rattle.lock.specs.Questions.{reach_refusal, enter_refusal, own_refusal};
+ghost use Rattle.lock.specs.Questions.{reach_refusal, enter_refusal, own_refusal, holder_refusal};
 ghost use Rattle.lock.specs.States.{seat_at};
 
 use crate::locks::Lock;
@@ -43,6 +44,17 @@ impl<S: Store> Lock<'_, S> {
         let found = self.enter(seat)?;
         if found.state == State::Away || found.passage != passage {
             return Err(BoxFault::Foreign(seat));
+        }
+        Ok(found)
+    }
+
+    // Questions 2 to 7 of a leave and of a publish: the seat holds the right. Answers a copy of its record.
+    pub(crate) fn enter_holding(&self, seat: SeatId, passage: Passage) -> Result<Seat, BoxFault>
+        ensures { MatchResult result (λ s. (holder_refusal (state_in S.words self.now) seat.0 passage.0 ≡ None) × (s ≡ seat_at (state_in S.words self.now) seat.0) × (seat.0 < length self.now.table.now) × (state_number s.state ≡ 2)) (λ e. holder_refusal (state_in S.words self.now) seat.0 passage.0 ≡ Some (refusal_of e)) }
+    {
+        let found = self.enter_own(seat, passage)?;
+        if found.state != State::Holding {
+            return Err(BoxFault::WrongState(seat));
         }
         Ok(found)
     }

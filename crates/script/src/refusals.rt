@@ -1,7 +1,7 @@
 ghost use Rattle.std.specs.Prelude.{◌≡◌, replicate};
 ghost use Rattle.script.specs.Counts.{count_of, counted_of};
 
-// How many calls were refused, by the number of the refusal, which is 1 to 10.
+// How many calls were refused, by the number of the refusal as it is told, which is 1 to 10.
 #[derive(Clone, Copy)]
 pub struct Refusals {
     // a map would allocate, and `add` cannot fail

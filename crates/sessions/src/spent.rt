@@ -8,6 +8,7 @@ use store::{Memory, Store};
 
 // Gives out every number by application and give-up, and prints the replies to the last pair and to what follows.
 pub fn spent_numbers(rt: &HostRuntime) -> anyhow::Result<()> {
+    // opened here as in `play`, and by no function of both: what a lock refers to lies where it was made
     let mut cells = vec![in rt.alloc(); 0; 252]?;
     let mut table = vec![in rt.alloc(); Seat::away(); 64]?;
     let mut store = Memory::new(cells.as_mut_slice());

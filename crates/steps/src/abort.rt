@@ -10,7 +10,7 @@ use layout::{BoxFault, WayId};
 use seats::{Place, Seat};
 use store::Store;
 
-// In Sync1: the queen has given up.
+// In Sync1: the queen has given up. A number and no enum, since beside it the cell holds heights.
 const QUEEN_GONE: u64 = 15;
 
 impl<S: Store> Gate<'_, S> {
