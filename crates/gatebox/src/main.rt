@@ -15,6 +15,7 @@ fn main(rt: HostRuntime) -> anyhow::Result<()> {
     run(&rt)
 }
 
+// Opens the box here, and by no function that `sessions` has too: a library for both would have to allocate.
 fn run(rt: &HostRuntime) -> anyhow::Result<()> {
     let mut cells = vec![in rt.alloc(); 0; 252]?;
     let mut table = vec![in rt.alloc(); Seat::away(); 64]?;

@@ -4,15 +4,15 @@
 #![tactic(auto)]
 
 mod hex;
+mod opened;
 mod spent;
 
-use anyhow::anyhow;
 use line::{Cursor, Pause, answer_all};
-use lock::{Lock, open};
-use seats::Seat;
+use lock::Lock;
+use opened::on_new_box;
 use spent::spent_numbers;
 use std::io::{BufRead, BufReader};
-use store::Memory;
+use store::Store;
 
 // Room for all replies of a session.
 const ROOM: usize = 65536;
@@ -38,21 +38,16 @@ fn run(rt: &HostRuntime) -> anyhow::Result<()> {
     spent_numbers(rt)
 }
 
-// Serves one session, and prints its replies.
+// Serves one session on a new box, and prints its replies.
 fn play(rt: &HostRuntime, input: &[u8]) -> anyhow::Result<()> {
-    let mut cells = vec![in rt.alloc(); 0; 252]?;
-    let mut table = vec![in rt.alloc(); Seat::away(); 64]?;
-    let mut store = Memory::new(cells.as_mut_slice());
-    let table = table.as_mut_slice();
-    let mut record = open(4, &mut store, table).map_err(|_| anyhow!("the box was not opened"))?;
-    let mut lock = Lock {
-        record: &mut record,
-        store: &mut store,
-        table,
-    };
+    on_new_box(rt, |lock| serve(rt, lock, input))
+}
+
+// Serves one session, and prints its replies.
+fn serve<S: Store>(rt: &HostRuntime, lock: &mut Lock<'_, S>, input: &[u8]) -> anyhow::Result<()> {
     let mut replies = vec![in rt.alloc(); 0; ROOM]?;
     let mut place = Cursor { at: 0 };
-    let progress = answer_all(&mut lock, &mut place, input, true, replies.as_mut_slice());
+    let progress = answer_all(lock, &mut place, input, true, replies.as_mut_slice());
     hex::print(rt, &replies.as_slice()[..progress.written])?;
     let at = place.at;
     let end = match progress.pause {

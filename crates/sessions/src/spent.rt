@@ -1,28 +1,21 @@
 // The session in which the passage numbers are spent, too long to be written down.
 use crate::hex;
-use anyhow::anyhow;
+use crate::opened::on_new_box;
 use line::{Cursor, answer_all};
-use lock::{Lock, open};
-use seats::Seat;
-use store::{Memory, Store};
+use lock::Lock;
+use store::Store;
 
 // Gives out every number by application and give-up, and prints the replies to the last pair and to what follows.
 pub fn spent_numbers(rt: &HostRuntime) -> anyhow::Result<()> {
-    // opened here as in `play`, and by no function of both: what a lock refers to lies where it was made
-    let mut cells = vec![in rt.alloc(); 0; 252]?;
-    let mut table = vec![in rt.alloc(); Seat::away(); 64]?;
-    let mut store = Memory::new(cells.as_mut_slice());
-    let table = table.as_mut_slice();
-    let mut record = open(4, &mut store, table).map_err(|_| anyhow!("the box was not opened"))?;
-    let mut lock = Lock {
-        record: &mut record,
-        store: &mut store,
-        table,
-    };
+    on_new_box(rt, |lock| spend_all(rt, lock))
+}
+
+// The same on a box that is given.
+fn spend_all<S: Store>(rt: &HostRuntime, lock: &mut Lock<'_, S>) -> anyhow::Result<()> {
     println!(rt; "# 8: numbers that are spent, after 16,383 passages")?;
-    spend(&mut lock);
-    tell(rt, &mut lock, &pair(16383))?;
-    tell(rt, &mut lock, &[1, 0, 2, 1, 9, 1, 0, 2, 5, 9])
+    spend(lock);
+    tell(rt, lock, &pair(16383))?;
+    tell(rt, lock, &[1, 0, 2, 1, 9, 1, 0, 2, 5, 9])
 }
 
 // An application of seat 9, and the give-up of its passage.
