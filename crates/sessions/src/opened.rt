@@ -5,7 +5,7 @@ use seats::Seat;
 use store::Memory;
 
 // Opens the box, and plays on it.
-pub fn on_new_box<F: FnOnce(&mut Lock<'_, Memory<'_>>) -> anyhow::Result<()>>(
+pub(crate) fn on_new_box<F: FnOnce(&mut Lock<'_, Memory<'_>>) -> anyhow::Result<()>>(
     rt: &HostRuntime,
     play: F,
 ) -> anyhow::Result<()>
