@@ -212,6 +212,7 @@ impl<'a> Account<'a> {
             let count = self.events.get(&event).copied().unwrap_or(0);
             println!(rt; "{event}: {count}")?;
         }
+        // by the numbers as they are told
         for number in 1..11 {
             let count = self.refusals.with(number);
             if count > 0 {

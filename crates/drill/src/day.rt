@@ -17,6 +17,7 @@ const BUSY_3: [u8; 4] = [0, 1, 2, 3];
 
 const BUSY_4: [u8; 6] = [0, 1, 2, 3, 4, 16];
 
+// A day: its own box, and the calls that were made on it.
 #[derive(Drop)]
 pub struct Day {
     record: BoxRecord,

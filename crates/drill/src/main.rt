@@ -58,12 +58,12 @@ fn in_image(rt: &HostRuntime, path: &str, image: &str) -> anyhow::Result<()> {
     let text = bytes_of(rt, path)?;
     let plan = Plan::read(rt, text.as_slice())?;
     let mut bytes = bytes_of(rt, image)?;
-    let got = match Image::open(bytes.as_mut_slice()) {
-        Ok(mut store) => plan.play(rt, &mut store)?,
-        Err(fault) => {
+    let got = {
+        let mut store = Image::open(bytes.as_mut_slice()).map_err(|fault| {
             let number = fault.number();
-            return Err(anyhow!("{image}: no image, refused with {number}"));
-        }
+            anyhow!("{image}: no image, refused with {number}")
+        })?;
+        plan.play(rt, &mut store)?
     };
     fs::write(rt, image, bytes.as_slice())?;
     plan.tell(rt, got.as_slice(), Detail::Lines)

@@ -9,9 +9,10 @@ use script::read_script;
 use seats::Seat;
 use store::Store;
 
-// How many seats and cells the largest box has.
+// How many seats the largest box has.
 pub const SEATS: usize = 64;
 
+// How many cells the largest box has.
 pub const CELLS: usize = 252;
 
 // What is told of a run.
@@ -48,20 +49,20 @@ impl<'a> Plan<'a> {
     pub fn play<S: Store>(&self, rt: &HostRuntime, store: &mut S) -> anyhow::Result<Vec<Got>> {
         let mut table = vec![in rt.alloc(); Seat::away(); SEATS]?;
         let calls: Vec<Call> = self.turns.iter().map(|turn| turn.call).collect(rt.alloc())?;
-        match perform(
+        perform(
             rt.alloc(),
             self.ways,
             store,
             table.as_mut_slice(),
             calls.as_slice(),
-        ) {
-            Ok(got) => Ok(got),
-            Err(PerformFault::Memory) => Err(anyhow!("no memory for the answers")),
-            Err(PerformFault::Box(fault)) => {
+        )
+        .map_err(|fault| match fault {
+            PerformFault::Memory => anyhow!("no memory for the answers"),
+            PerformFault::Box(fault) => {
                 let number = Refusal::from(fault).number;
-                Err(anyhow!("the opening is refused with {number}"))
+                anyhow!("the opening is refused with {number}")
             }
-        }
+        })
     }
 
     // Tells what the calls got, and sums it up.

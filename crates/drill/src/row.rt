@@ -100,6 +100,7 @@ impl fmt::Display for Refused {
             cell,
             ..
         } = self.0;
+        // by the number, since what a call got is a refusal as it is told
         match number {
             10 => write!(f, "refused {number}, height {height}, cell {cell}"),
             _ => write!(f, "refused {number}"),

@@ -15,7 +15,7 @@ fn main(rt: HostRuntime) -> anyhow::Result<()> {
     run(&rt)
 }
 
-// Opens the box here, and by no function that `sessions` has too: a library for both would have to allocate.
+// Opens the box as `sessions` does: a crate for these nine lines would be longer than they are.
 fn run(rt: &HostRuntime) -> anyhow::Result<()> {
     let mut cells = vec![in rt.alloc(); 0; 252]?;
     let mut table = vec![in rt.alloc(); Seat::away(); 64]?;
@@ -35,7 +35,7 @@ fn serve<S: Store>(rt: &HostRuntime, lock: &mut Lock<'_, S>) -> anyhow::Result<(
     let mut block = vec![in rt.alloc(); 0; BLOCK]?;
     let mut replies = vec![in rt.alloc(); 0; BLOCK]?;
     let mut input: Vec<u8> = Vec::new(rt.alloc());
-    // a count and no `loop`, here and below: no proof can know that the input ends
+    // a count and no `loop`: no proof can know that the input ends
     for _ in 0..u64::MAX {
         let count = rt.stdin().read(block.as_mut_slice())?;
         input.extend_from_slice(&block.as_slice()[..count])?;
@@ -57,6 +57,7 @@ fn reply<S: Store>(
     replies: &mut [u8],
 ) -> anyhow::Result<bool> {
     let mut place = Cursor { at: 0 };
+    // a count here too: no clause of `answer_all` says that it comes further when it stops for want of room
     for _ in 0..u64::MAX {
         let progress = answer_all(lock, &mut place, input.as_slice(), ended, replies);
         rt.stdout().write_all(&replies[..progress.written])?;

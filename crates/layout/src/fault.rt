@@ -8,7 +8,7 @@ use store::StoreFault;
 // A refusal as it is told: its number, the seat that the call names, and for an unfit word the height and the cell.
 #[derive(Clone, Copy, PartialEq, Eq, Debug)]
 pub struct Refusal {
-    // a number, as it is told: which fault it is says `BoxFault`
+    // a number, as it is told: store, box and line have an enum each, and tell theirs by this
     pub number: u8,
     pub seat: SeatId,
     pub height: u8,

@@ -6,8 +6,7 @@ use crate::fault::LineFault;
 use crate::kinds::Kind;
 use layout::{Passage, SeatId};
 
-// A message. It is no `laws::Call`, which lies above the line and has no look and no text. The text that is published is
-// a part of the input. It may have any length here, since `kind` asks nothing
+// A message. It is no `laws::Call`, which has no look and no text. The text that is published is a part of the input. It may have any length here, since `kind` asks nothing
 // of its caller: so contracts say, and no ghost field does, that a text which was read has at most 80 bytes.
 #[derive(Clone, Copy)]
 pub enum Message<'a> {

@@ -4,11 +4,13 @@
 --     enter_refusal b p      2 to 5: the record of seat p is lawful too
 --     own_refusal b p n      2 to 6: the seat takes part, and n is its passage
 --     apply_refusal, give_up_refusal, holder_refusal   all those of an application, a give-up, and a leave or a publish
-use Rattle.std.specs.Prelude.{ℕ, Bool, not, ◌&&◌, length, Some, None, Option, ◌==◌, nat_le, nat_lt}
+--     Entered f b p r        the questions of refusal f were asked about seat p: r has its record, which is in the table, or f
+use Rattle.std.specs.Prelude.{◌≡◌, ℕ, ◌<◌, Bool, not, ◌&&◌, length, Some, None, Option, MatchResult, Result, ◌==◌, nat_le, nat_lt}
 use Rattle.layout.specs.declared.fault.Refusal.{Refusal}
+use Rattle.layout.specs.declared.fault.BoxFault.{BoxFault}
 use Rattle.layout.specs.Boxes.{ways_refusal}
 use Rattle.layout.specs.Gates.{cells_of, seats_of}
-use Rattle.layout.specs.Refusals.{refusal}
+use Rattle.layout.specs.Refusals.{refusal, refusal_of}
 use Rattle.seats.specs.declared.seat.Seat.{Seat}
 use Rattle.seats.specs.Lawful.{lawful}
 use Rattle.seats.specs.Places.{state_number}
@@ -52,3 +54,7 @@ give_up_refusal b p n =
 
 abbrev pub holder_refusal : BoxState → (p n : ℕ) → Option Refusal
 holder_refusal b p n = or_else (own_refusal b p n) (ask (is_in 2 (seat_at b p)) (refusal 7 p) None)
+
+abbrev pub Entered : Option Refusal → BoxState → ℕ → Result Seat BoxFault → Type 0
+Entered f b p r =
+    MatchResult r (λ s. (f ≡ None) × (s ≡ seat_at b p) × (p < length b.seats)) (λ e. f ≡ Some (refusal_of e))

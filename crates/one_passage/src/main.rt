@@ -3,7 +3,7 @@
 
 use anyhow::anyhow;
 use known::known_values;
-use layout::{BoxFault, Passage, SeatId};
+use layout::{BoxFault, Passage, SeatId, Ways};
 use lock::{Lock, open};
 use seats::{Seat, State};
 use store::{Image, Memory, Store};
@@ -11,7 +11,7 @@ use store::{Image, Memory, Store};
 // No passage of a lone seat takes more polls than this from one state to the next.
 const MOST_POLLS: u8 = 32;
 
-// The coin that tries to become king.
+// The coin that tries to become king, a byte as a poll takes it.
 const KING: u8 = 0;
 
 fn main(rt: HostRuntime) -> anyhow::Result<()> {
@@ -117,8 +117,10 @@ fn cells<S: Store>(
         return Err(anyhow!("no such height"));
     };
     let base = at.base;
-    let size = 4 + 2 * u16::from(at.ways);
+    let ways = Ways::try_from(at.ways).map_err(|_| anyhow!("no such ways"))?;
+    let size = ways.cells_per_gate();
     print!(rt; "cells {base} up:")?;
+    // by positions, since a store has no slice of its words
     for pos in base..base.saturating_add(size) {
         let word = lock
             .store

@@ -4,6 +4,7 @@ use anyhow::anyhow;
 use layout::{BoxFault, BoxRecord, Passage, Refusal, SeatId};
 use lock::{Lock, open};
 use seats::{Place, Seat};
+use std::fmt;
 use store::Memory;
 
 // What a cell holds before the opening.
@@ -20,6 +21,20 @@ pub enum Call {
     Look(SeatId),
 }
 
+impl fmt::Display for Call {
+    fn fmt<W: fmt::Write>(&self, f: &mut fmt::Formatter<W>) -> fmt::Result {
+        match self {
+            Call::Apply(seat) => write!(f, "application {seat}"),
+            Call::Poll(seat, passage, coin) => write!(f, "poll {seat} {passage} {coin}"),
+            Call::GiveUp(seat, passage) => write!(f, "give-up {seat} {passage}"),
+            Call::Leave(seat, passage) => write!(f, "leave {seat} {passage}"),
+            Call::Publish(seat, passage) => write!(f, "publish {seat} {passage}"),
+            Call::Look(seat) => write!(f, "look {seat}"),
+        }
+    }
+}
+
+// A box of four ways, and a store and a table that need not fit it.
 #[derive(Drop)]
 pub struct Bed {
     record: BoxRecord,
@@ -79,7 +94,7 @@ impl Bed {
         let table = self.table.clone()?;
         let answer = self.perform(call);
         let same = words == self.words && table == self.table;
-        name(rt, call)?;
+        print!(rt; "{call}")?;
         tell(rt, answer, same)
     }
 
@@ -126,18 +141,6 @@ impl Opening {
         print!(rt; "opening of {ways} ways over {seats} seats and {cells} cells")?;
         tell(rt, answer, same)
     }
-}
-
-fn name(rt: &HostRuntime, call: Call) -> anyhow::Result<()> {
-    match call {
-        Call::Apply(seat) => print!(rt; "application {seat}")?,
-        Call::Poll(seat, passage, coin) => print!(rt; "poll {seat} {passage} {coin}")?,
-        Call::GiveUp(seat, passage) => print!(rt; "give-up {seat} {passage}")?,
-        Call::Leave(seat, passage) => print!(rt; "leave {seat} {passage}")?,
-        Call::Publish(seat, passage) => print!(rt; "publish {seat} {passage}")?,
-        Call::Look(seat) => print!(rt; "look {seat}")?,
-    }
-    Ok(())
 }
 
 fn tell(rt: &HostRuntime, answer: Result<(), BoxFault>, same: bool) -> anyhow::Result<()> {

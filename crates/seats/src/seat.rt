@@ -12,7 +12,7 @@ pub struct Seat {
     pub place: Place,
     // the height at which it stands
     pub height: u8,
-    // the highest height that it has won, 0 for none
+    // the highest height that it has won: 0 before the first, as heights count from 1
     pub top: u8,
     // the height up to which it wins with its next capture
     pub aim: u8,
@@ -23,7 +23,7 @@ pub struct Seat {
     pub handed: bool,
     // the way whose Apply it reads next
     pub scan: WayId,
-    // the passages that it has seen waiting, by way; 0 for none and no `Option`, since a table may hold any numbers here
+    // the passages that it has seen waiting, by way; 0 for none and no `Option`, in which `Some(0)` would be a second none
     pub noted: [u16; 4],
     // the way and the number that it keeps for a later step
     pub kept_way: WayId,

@@ -34,15 +34,15 @@ fn joined(high: u8, low: u8) -> u8 {
 
 // Prints replies, one a line.
 pub fn print(rt: &HostRuntime, replies: &[u8]) -> anyhow::Result<()> {
-    let mut left = 0;
-    for (k, b) in replies.iter().enumerate() {
-        if left == 0 {
-            let low = replies.get(k.saturating_add(2)).copied().unwrap_or(0);
-            left = usize::from(low) + 3;
+    let mut rest = replies;
+    while let [_, _, size, ..] = rest {
+        let (reply, others) = rest.split_at(rest.len().min(usize::from(*size) + 3));
+        rest = others;
+        for (k, b) in reply.iter().enumerate() {
+            let lead = if k == 0 { "" } else { " " };
+            print!(rt; "{lead}{b:02x}")?;
         }
-        left -= 1;
-        let end = if left == 0 { "\n" } else { " " };
-        print!(rt; "{b:02x}{end}")?;
+        println!(rt; "")?;
     }
     Ok(())
 }

@@ -17,7 +17,7 @@ pub enum Mark {
 }
 
 impl Mark {
-    // The state in a pair.
+    // The state in a pair. No `From`, since the pair has a number too.
     pub(crate) fn of(pair: u16) -> Mark
         ensures { result ≡ mark_of pair }
     {

@@ -10,7 +10,8 @@ use crate::codes::{Mark, Role, Taken, pair};
 use layout::{BoxFault, Meeting, Passage, WayId};
 use store::Store;
 
-// A gate as a seat meets it, in a store that has all its cells. The steps of the places are its methods.
+// A gate as a seat meets it, in a store that has all its cells. The steps of the places are its methods. The seat is
+// lent beside it and is no field, since a change of the pawns reads the seat while it borrows the gate.
 #[derive(Drop)]
 pub struct Gate<'a, S: Store> {
     store: &'a mut S,
@@ -19,7 +20,7 @@ pub struct Gate<'a, S: Store> {
 }
 
 impl<'a, S: Store> Gate<'a, S> {
-    ghost use Rattle.steps.specs.Goes.{SameGate};
+    ghost use Rattle.steps.specs.Goes.{HasCell, SameGate};
 
     // The gate of a meeting.
     pub(crate) fn new(store: &'a mut S, at: Meeting) -> Gate<'a, S>
@@ -33,7 +34,7 @@ impl<'a, S: Store> Gate<'a, S> {
 
     // The word in a cell.
     pub(crate) fn read(&mut self, cell: Cell) -> Result<u64, BoxFault>
-        requires { cell_at self.old.at cell < length (S.words self.old.store.now) }
+        requires { HasCell self.old cell }
         ensures gate { SameGate self.old self.new }
         ensures answer { result ≡ Ok (word (S.words self.old.store.now) self.old.at cell) }
         ensures after { S.words self.new.store.now ≡ S.words self.old.store.now }
@@ -43,7 +44,7 @@ impl<'a, S: Store> Gate<'a, S> {
 
     // Puts a word into a cell.
     pub(crate) fn write(&mut self, cell: Cell, word: u64) -> Result<(), BoxFault>
-        requires { cell_at self.old.at cell < length (S.words self.old.store.now) }
+        requires { HasCell self.old cell }
         ensures gate { SameGate self.old self.new }
         ensures answer { result ≡ Ok tt }
         ensures after { S.words self.new.store.now ≡ put (S.words self.old.store.now) self.old.at cell word }
@@ -53,7 +54,7 @@ impl<'a, S: Store> Gate<'a, S> {
 
     // Puts `new` into a cell that holds `old`, and says whether it did.
     pub(crate) fn swap(&mut self, cell: Cell, old: u64, new: u64) -> Result<bool, BoxFault>
-        requires { cell_at self.old.at cell < length (S.words self.old.store.now) }
+        requires { HasCell self.old cell }
         ensures gate { SameGate self.old self.new }
         ensures answer { result ≡ Ok (holds (S.words self.old.store.now) self.old.at cell old) }
         ensures after { S.words self.new.store.now ≡ swapped (S.words self.old.store.now) self.old.at cell old new }

@@ -1,7 +1,7 @@
 ghost use Rattle.std.specs.Prelude.{◌≡◌, ◌<◌, length};
 ghost use Rattle.steps.specs.HelpRelease.{race_to_close_step, read_sync_two_step};
 ghost use Rattle.steps.specs.Codes.{cell_at};
-ghost use Rattle.steps.specs.Goes.{Goes};
+ghost use Rattle.steps.specs.Goes.{Goes, HasCell};
 ghost use Rattle.steps.specs.Outcomes.{clears, strikes};
 
 use crate::cells::Cell;
@@ -11,6 +11,7 @@ use layout::{BoxFault, WayId};
 use seats::{Place, Seat};
 use store::Store;
 
+// Sync2 has a number, one more than a way, and no `Option` of a way: in the store 0 is none.
 impl<S: Store> Gate<'_, S> {
     // Place 56: of king and queen, the first to come closes, and the second frees the gate.
     pub(crate) fn race_to_close(&mut self, seat: &mut Seat) -> Result<(), BoxFault>
@@ -27,7 +28,7 @@ impl<S: Store> Gate<'_, S> {
 
     // Places 58, 60 and 67: empties a cell, and goes on at a place.
     pub(crate) fn clear(&mut self, cell: Cell, seat: &mut Seat, next: Place) -> Result<(), BoxFault>
-        requires { cell_at self.old.at cell < length (S.words self.old.store.now) }
+        requires { HasCell self.old cell }
         ensures { Goes (clears cell next) self.old seat.old result self.new seat.new }
     {
         self.write(cell, 0)?;

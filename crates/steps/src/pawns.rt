@@ -15,9 +15,11 @@ use std::array;
 use store::Store;
 
 // The pawn word: a passage number and a state for each way of a gate. The store's format is one word, no array of pairs.
+// That a way is below 4 is asked where it has to be, and no invariant of `WayId`, which may hold any number.
 #[derive(Clone, Copy, PartialEq, Eq, Debug)]
 pub struct PawnSet(pub u64);
 
+// Each method takes the pairs apart and packs them: the contract of one that took the change would be longer than that.
 impl PawnSet {
     // Registers the noted passages of the ways below `ways`, but for those that are struck out.
     pub(crate) fn collect(&mut self, ways: u8, noted: [u16; 4])

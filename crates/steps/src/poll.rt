@@ -50,7 +50,8 @@ fn due(
     Ok(DuePoll { at, coin })
 }
 
-// The questions about the seat, in turn. The store is asked for here too, so that no step stops half-way.
+// The questions about the seat, in turn. The store is asked for here too, so that no step stops half-way. What is asked
+// of comes as five, since a struct of it would be made in `due` for this one call.
 fn ask(size: usize, seat: &Seat, path: Path, passage: Passage, coin: u8) -> Result<Coin, BoxFault>
     ensures { MatchResult result (λ c. Asked path.ways.number path.seat.0 passage.0 coin seat.now size c) (λ e. poll_refusal path.ways.number path.seat.0 passage.0 coin seat.now size ≡ Some (refusal_of e)) }
 {

@@ -9,7 +9,7 @@ pub enum StoreFault {
 }
 
 impl StoreFault {
-    // The number of the refusal.
+    // The number of the refusal. A method and no `From`: it ends chains, and is passed by its name.
     pub fn number(self) -> u8
         ensures { result ≡ store_number self }
     {
@@ -29,7 +29,7 @@ pub enum ImageFault {
 }
 
 impl ImageFault {
-    // The number of the refusal.
+    // The number of the refusal, by a method as above.
     pub fn number(self) -> u8
         ensures { result ≡ image_number self }
     {

@@ -19,7 +19,7 @@ impl<'a> Memory<'a> {
         Memory { cells }
     }
 
-    // The word at a position.
+    // The word at a position. Apart from `read`, since a proof of `get` behind a `&mut self` loses that the words stay.
     fn word(&self, pos: usize) -> Result<u64, StoreFault>
         ensures { numbered result ≡ read_of self.now.cells.now pos }
     {
