@@ -1,5 +1,5 @@
 -- The steps of a seat that tries to win a gate keep the relation: places 5, 7, 8 and 14. Assumes nothing.
-use Rattle.std.proofs.Common.{◌≡◌, ℕ, ◌≤◌, true, ◌≢◌, Ok, refl, ap, arith}
+use Rattle.std.proofs.Common.{◌≡◌, ℕ, ◌<◌, ◌≤◌, true, cond, ◌≢◌, ◌⊎◌, Ok, refl, ap, inl, inr, arith}
 use Rattle.std.proofs.lemmas.Bool.{cond_both, eqb-true, eqb-false}
 use Rattle.std.proofs.lemmas.Bool.Decides.{nat_tests}
 use Rattle.layout.specs.Gates.{heights_of, gate_of, way_of}
@@ -8,23 +8,24 @@ use Rattle.seats.specs.declared.state.State.TheVariants.{Climbing}
 use Rattle.seats.specs.declared.place.Place.{Place}
 use Rattle.seats.specs.declared.place.Place.TheVariants.{RaceForRole, AwaitPromotion, RecheckCount, AwaitKing, MarkApply}
 use Rattle.seats.specs.Lawful.{lawful_open}
-use Rattle.seats.specs.Places.{place_number}
+use Rattle.seats.specs.Places.{place_number, within}
 use Rattle.seats.specs.Seats.{goes_to, aims}
 use Rattle.steps.specs.declared.codes.Coin.{Coin}
 use Rattle.steps.specs.declared.codes.Coin.TheVariants.{TryKing, TryQueen, TryPawn}
-use Rattle.steps.specs.declared.cells.Cell.TheVariants.{Count, Role}
-use Rattle.steps.specs.Outcomes.{Outcome, did, put}
-use Rattle.steps.specs.Climb.{race_for_role_step}
+use Rattle.steps.specs.declared.cells.Cell.TheVariants.{Count, SyncOne, Apply, Role}
+use Rattle.steps.specs.Codes.{pro}
+use Rattle.steps.specs.Outcomes.{Outcome, did, unfit_at, put}
+use Rattle.steps.specs.Climb.{race_for_role_step, await_promotion_step, recheck_count_step, await_king_step}
 use Rattle.lock.specs.States.{BoxState, seat_at}
-use Rattle.gate.proofs.Phases.{Phase, Cells, CellsOk}
+use Rattle.gate.proofs.Phases.{Phase, Stand, Marks, Cells, WayOk, CellsOk}
 use Rattle.gate.proofs.Gates.{Nothing}
-use Rattle.gate.proofs.Moves.{become_pawn}
+use Rattle.gate.proofs.Moves.{become_pawn, see_promotion, not_promoted, still_taken, race_again, read_hand_over}
 use Rattle.gate.proofs.Turns.{become_king, become_queen}
 use Rattle.relation.proofs.Views.{word_of, Ghost, stands_at, stand_of, high_of, high_at}
 use Rattle.relation.proofs.Acting.{Acts}
 use Rattle.relation.proofs.Polls.{Next, Goes}
 use Rattle.relation.proofs.Writings.{m, c₀, x₀, here, cells_ok, way_ok, writes_nothing, writes-count, writes-role, go, calmly}
-use Rattle.relation.proofs.Standing.{stands_climbing, next_same}
+use Rattle.relation.proofs.Standing.{stands_climbing, next_same, queen_waits}
 
 -- a step that was done leaves a related box, given that its seat is lawful
 abbrev pub Keeps : BoxState → ℕ → Outcome (Unit {0}) → Type 0
@@ -33,6 +34,10 @@ Keeps b p o = lawful_open b.ways o.seat ≡ true → o.answer ≡ Ok tt → Next
 -- a king alone has handed over nothing
 alone_unhanded : (w h H : ℕ) (f : Phase) (c : Cells) → CellsOk w h H f c → c.count ≡ 1 → c.sync_one ≡ 0
 alone_unhanded w h H f c co e = grind arith
+
+-- a pawn's application is its own, and waits or is promoted
+pawn_applies : (h H : ℕ) (f : Phase) (c : Cells) (i : ℕ) (v : Stand) (x : Marks) → WayOk h H f c i v x → v.stage ≡ 1 → v.place ≡ 7 → (x.number ≡ v.passage) × ((x.applied ≡ 1) ⊎ (x.applied ≡ 2))
+pawn_applies h H f c i v x wo e d = (grind arith, grind arith)
 
 module _ {b : BoxState} {G : Ghost} {p : ℕ} (A : Acts b G p (seat_at b p).height) (climbs : (seat_at b p).state ≡ Climbing) where
   abbrev s : Seat
@@ -105,3 +110,84 @@ module _ {b : BoxState} {G : Ghost} {p : ℕ} (A : Acts b G p (seat_at b p).heig
     keeps_race_for_role TryKing = cond_both _ _ _ (Keeps b p) (λ d. king (eqb-true _ _ d)) (λ d. idles)
     keeps_race_for_role TryQueen = cond_both _ _ _ (Keeps b p) (λ d. queen (eqb-true _ _ d)) (λ d. idles)
     keeps_race_for_role TryPawn = cond_both _ _ _ (Keeps b p) (λ d. pawn (eqb-true _ _ d)) (λ d. idles)
+
+  module _ (e : s.place ≡ RecheckCount) where
+    eight : place_number s.place ≡ 8
+    eight = ap place_number e
+
+    taken : word_of b g Count ≡ 2 → Keeps b p (did b.cells (goes_to s AwaitPromotion))
+    taken d law ok =
+        let q = eight in
+        let n : stands_at s ≢ 0 = stands_climbing s climbs (λ r. omega arith) A.low in
+        let k = still_taken w h H f (c₀ A) i (here A) (stand_of s) (x₀ A) (cells_ok A) (way_ok A n) stage eight d in
+        go A (writes_nothing A) (goes_to s AwaitPromotion) f Nothing (λ j l o r. refl) (λ j l o. tt) n
+        (along AwaitPromotion s.aim law (omega arith) (omega arith) (omega arith))
+        (grind (arith, nat_tests)) (λ r. absurd (omega arith)) (calmly A (c₀ A) (stand_of s) (stand_of (goes_to s AwaitPromotion)) _ k)
+
+    untaken : word_of b g Count ≢ 2 → Keeps b p (did b.cells (goes_to s RaceForRole))
+    untaken d law ok =
+        let q = eight in
+        let n : stands_at s ≢ 0 = stands_climbing s climbs (λ r. omega arith) A.low in
+        let k = race_again w h H f (c₀ A) i (here A) (stand_of s) (x₀ A) (cells_ok A) (way_ok A n) stage eight d in
+        go A (writes_nothing A) (goes_to s RaceForRole) f Nothing (λ j l o r. refl) (λ j l o. tt) n
+        (along RaceForRole s.aim law (omega arith) (omega arith) (omega arith))
+        (grind (arith, nat_tests)) (λ r. absurd (omega arith)) (calmly A (c₀ A) (stand_of s) (stand_of (goes_to s RaceForRole)) _ k)
+
+    pub keeps_recheck_count : Keeps b p (recheck_count_step (m A) s b.cells)
+    keeps_recheck_count =
+        cond_both _ _ _ (λ (x : Place). Keeps b p (did b.cells (goes_to s x))) (λ d. taken (eqb-true _ _ d)) (λ d. untaken (eqb-false _ _ d))
+
+  module _ (e : s.place ≡ AwaitPromotion) where
+    seven : place_number s.place ≡ 7
+    seven = ap place_number e
+
+    n₇ : stands_at s ≢ 0
+    n₇ = stands_climbing s climbs (λ d. let q = seven in omega arith) A.low
+
+    promoted : word_of b g (Apply (record { 0 = i })) ≡ pro s.passage.0 → Keeps b p (did (put b.cells (m A) (Role (m A).way) 4) (goes_to (aims s h) MarkApply))
+    promoted d law ok =
+        let q = seven in
+        let k = see_promotion w h H f (c₀ A) i (here A) (stand_of s) (x₀ A) (cells_ok A) (way_ok A n₇) stage seven (omega arith) in
+        go A (writes-role A (writes_nothing A) 4) (goes_to (aims s h) MarkApply) f Nothing (λ j l o r. refl) (λ j l o. tt) n₇
+        (along MarkApply h law (omega arith) (omega arith) (omega arith))
+        (grind (arith, nat_tests)) (λ r. absurd (omega arith)) (calmly A (c₀ A) (stand_of s) (stand_of (goes_to (aims s h) MarkApply)) _ k)
+
+    unpromoted : word_of b g (Apply (record { 0 = i })) ≢ pro s.passage.0 → Keeps b p (did b.cells (goes_to s RecheckCount))
+    unpromoted d law ok =
+        let q = seven in
+        let y = pawn_applies h H f (c₀ A) i (stand_of s) (x₀ A) (way_ok A n₇) stage seven in
+        let y₀ = y.0 in
+        let waits : (x₀ A).applied ≡ 1 = elim y.1 [ inl r ↦ r | inr r ↦ absurd (d (omega arith)) ] in
+        let k = not_promoted w h H f (c₀ A) i (here A) (stand_of s) (x₀ A) (cells_ok A) (way_ok A n₇) stage seven waits in
+        go A (writes_nothing A) (goes_to s RecheckCount) f Nothing (λ j l o r. refl) (λ j l o. tt) n₇
+        (along RecheckCount s.aim law (omega arith) (omega arith) (omega arith))
+        (grind (arith, nat_tests)) (λ r. absurd (omega arith)) (calmly A (c₀ A) (stand_of s) (stand_of (goes_to s RecheckCount)) _ k)
+
+    pub keeps_await_promotion : Keeps b p (await_promotion_step (m A) s b.cells)
+    keeps_await_promotion = cond_both _ _ _ (Keeps b p) (λ d. promoted (eqb-true _ _ d)) (λ d. unpromoted (eqb-false _ _ d))
+
+  module _ (e : s.place ≡ AwaitKing) where
+    fourteen : place_number s.place ≡ 14
+    fourteen = ap place_number e
+
+    n₁₄ : stands_at s ≢ 0
+    n₁₄ = stands_climbing s climbs (λ d. let q = fourteen in omega arith) A.low
+
+    given : word_of b g SyncOne ≢ 0 → within h H (word_of b g SyncOne) ≡ true → Keeps b p (did b.cells (goes_to (aims s (word_of b g SyncOne)) MarkApply))
+    given d r law ok =
+        let q = fourteen in
+        let a = word_of b g SyncOne in
+        let y = queen_waits w h H f (c₀ A) i (stand_of s) (x₀ A) (here A).low (here A).high (here A).most (cells_ok A) (way_ok A n₁₄) stage fourteen in
+        let y₀ = y.0 in
+        let k = read_hand_over w h H f (c₀ A) i (here A) (stand_of s) (x₀ A) (cells_ok A) (way_ok A n₁₄) stage fourteen d in
+        go A (writes_nothing A) (goes_to (aims s a) MarkApply) f Nothing (λ j l o r. refl) (λ j l o. tt) n₁₄
+        (along MarkApply a law (omega arith) (omega arith) (omega arith))
+        (grind (arith, nat_tests)) (λ r. absurd (omega arith)) (calmly A (c₀ A) (stand_of s) (stand_of (goes_to (aims s a) MarkApply)) _ k)
+
+    unfit : Keeps b p (unfit_at (m A) SyncOne b.cells s)
+    unfit law ok = absurd (let z : ◌≡◌ {A = ℕ} 0 1 = cc in omega arith)
+
+    pub keeps_await_king : Keeps b p (await_king_step (m A) s b.cells)
+    keeps_await_king =
+        cond_both _ _ _ (Keeps b p) (λ d. idles)
+        (λ d. cond_both _ _ _ (Keeps b p) (λ r. given (eqb-false _ _ d) r) (λ r. unfit))
