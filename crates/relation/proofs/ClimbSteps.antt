@@ -1,30 +1,32 @@
 -- The steps of a seat that tries to win a gate keep the relation: places 5, 7, 8 and 14. Assumes nothing.
-use Rattle.std.proofs.Common.{◌≡◌, ℕ, ◌<◌, ◌≤◌, true, cond, ◌≢◌, ◌⊎◌, Ok, refl, ap, inl, inr, arith}
+use Rattle.std.proofs.Common.{◌≡◌, ℕ, ◌<◌, ◌≤◌, ◌+◌, ◌%◌, ◌/◌, Bool, true, false, cond, eqb, ◌≢◌, ◌⊎◌, List, Ok, refl, ap, inl, inr, arith}
 use Rattle.std.proofs.lemmas.Bool.{cond_both, eqb-true, eqb-false}
 use Rattle.std.proofs.lemmas.Bool.Decides.{nat_tests}
+use Rattle.layout.specs.declared.path.Meeting.{Meeting}
 use Rattle.layout.specs.Gates.{heights_of, gate_of, way_of}
 use Rattle.seats.specs.declared.seat.Seat.{Seat}
-use Rattle.seats.specs.declared.state.State.TheVariants.{Climbing}
+use Rattle.seats.specs.declared.state.State.TheVariants.{Climbing, Holding, Leaving}
 use Rattle.seats.specs.declared.place.Place.{Place}
-use Rattle.seats.specs.declared.place.Place.TheVariants.{RaceForRole, AwaitPromotion, RecheckCount, AwaitKing, MarkApply}
+use Rattle.seats.specs.declared.place.Place.TheVariants.{Rest, ClaimApply, ReadRole, RaceForRole, AwaitPromotion, RecheckCount, AwaitKing, MarkApply}
 use Rattle.seats.specs.Lawful.{lawful_open}
-use Rattle.seats.specs.Places.{place_number, within}
-use Rattle.seats.specs.Seats.{goes_to, aims}
+use Rattle.seats.specs.Places.{state_number, place_number, within}
+use Rattle.seats.specs.Seats.{goes_to, aims, moved, away}
 use Rattle.steps.specs.declared.codes.Coin.{Coin}
 use Rattle.steps.specs.declared.codes.Coin.TheVariants.{TryKing, TryQueen, TryPawn}
 use Rattle.steps.specs.declared.cells.Cell.TheVariants.{Count, SyncOne, Apply, Role}
-use Rattle.steps.specs.Codes.{pro}
-use Rattle.steps.specs.Outcomes.{Outcome, did, unfit_at, put}
-use Rattle.steps.specs.Climb.{race_for_role_step, await_promotion_step, recheck_count_step, await_king_step}
+use Rattle.steps.specs.Codes.{reg, pro}
+use Rattle.steps.specs.Outcomes.{Outcome, did, unfit_at, put, pair_promoted, captured}
+use Rattle.steps.specs.Climb.{race_for_role_step, await_promotion_step, recheck_count_step, await_king_step, mark_apply_step}
 use Rattle.lock.specs.States.{BoxState, seat_at}
 use Rattle.gate.proofs.Phases.{Phase, Stand, Marks, Cells, WayOk, CellsOk}
-use Rattle.gate.proofs.Gates.{Nothing}
-use Rattle.gate.proofs.Moves.{become_pawn, see_promotion, not_promoted, still_taken, race_again, read_hand_over}
+use Rattle.gate.proofs.Gates.{still, applies, Nothing}
+use Rattle.gate.proofs.Moves.{become_pawn, see_promotion, not_promoted, still_taken, race_again, read_hand_over, capture}
 use Rattle.gate.proofs.Turns.{become_king, become_queen}
-use Rattle.relation.proofs.Views.{word_of, Ghost, stands_at, stand_of, high_of, high_at}
+use Rattle.relation.proofs.Views.{word_of, Ghost, stands_at, stand_of, low_of, high_of, high_at}
+use Rattle.relation.proofs.GateWords.{Words}
 use Rattle.relation.proofs.Acting.{Acts}
-use Rattle.relation.proofs.Polls.{Next, Goes}
-use Rattle.relation.proofs.Writings.{m, c₀, x₀, here, cells_ok, way_ok, writes_nothing, writes-count, writes-role, go, calmly}
+use Rattle.relation.proofs.Polls.{Next, Goes, Rests}
+use Rattle.relation.proofs.Writings.{Writing, m, c₀, x₀, here, cells_ok, way_ok, writes_nothing, writes-count, writes-role, writes-apply, writes_as, go, turn_in, calmly}
 use Rattle.relation.proofs.Standing.{stands_climbing, next_same, queen_waits}
 
 -- a step that was done leaves a related box, given that its seat is lawful
@@ -38,6 +40,42 @@ alone_unhanded w h H f c co e = grind arith
 -- a pawn's application is its own, and waits or is promoted
 pawn_applies : (h H : ℕ) (f : Phase) (c : Cells) (i : ℕ) (v : Stand) (x : Marks) → WayOk h H f c i v x → v.stage ≡ 1 → v.place ≡ 7 → (x.number ≡ v.passage) × ((x.applied ≡ 1) ⊎ (x.applied ≡ 2))
 pawn_applies h H f c i v x wo e d = (grind arith, grind arith)
+
+-- who has won has its own number in its application, which waits or is promoted
+winner_applies : (h H : ℕ) (f : Phase) (c : Cells) (i : ℕ) (v : Stand) (x : Marks) → WayOk h H f c i v x → v.stage ≡ 1 → v.place ≡ 16 → (x.number ≡ v.passage) × ((x.applied ≡ 1) ⊎ (x.applied ≡ 2))
+winner_applies h H f c i v x wo e d = (grind arith, grind arith)
+
+climber_numbers : (w : ℕ) (s : Seat) → lawful_open w s ≡ true → s.state ≡ Climbing → (s.passage.0 ≤ 16383) × (s.height ≡ s.top + 1)
+climber_numbers w s law climbs = (grind (arith, nat_tests), grind (arith, nat_tests))
+
+won_far : (w : ℕ) (s : Seat) → lawful_open w s ≡ true → s.state ≡ Climbing → place_number s.place ≡ 16 → s.height ≤ s.aim
+won_far w s law climbs e = grind (arith, nat_tests)
+
+-- a seat that has won the gates up to a stands at none, in each of the three ways that a capture can end
+module _ (w : ℕ) (s : Seat) (a : ℕ) (climbs : s.state ≡ Climbing) (kept : s.handed ≡ false) (low : 1 ≤ s.height) (high : s.height ≤ a) where
+  Won : Seat → Type 0
+  Won t = lawful_open w t ≡ true → Rests w s t (low_of s) a
+
+  won_holding : Won (moved (aims s a) Holding Rest a a)
+  unfolding Won
+  won_holding law =
+      record { law = law; nowhere = refl; handed = kept; passage = λ e. refl; given = omega arith; yet = λ k y. absurd (let q = y.0 in omega arith); place = λ e. omega arith; low = grind arith; high = λ r v. refl }
+
+  won_climbing : Won (moved (aims s a) Climbing ClaimApply (a + 1) a)
+  unfolding Won
+  won_climbing law =
+      record { law = law; nowhere = refl; handed = kept; passage = λ e. refl; given = omega arith; yet = λ k y. (ap state_number climbs, inl (elim y.1 [ inl q ↦ omega arith | inr q ↦ let r = q.0 in omega arith ])); place = λ e. omega arith; low = grind arith; high = λ r v. grind arith }
+
+  won_leaving : Won (moved (aims s a) Leaving ReadRole 1 a)
+  unfolding Won
+  won_leaving law =
+      record { law = law; nowhere = refl; handed = kept; passage = λ e. refl; given = omega arith; yet = λ k y. absurd (let q = y.0 in omega arith); place = λ e. omega arith; low = grind arith; high = λ r v. grind arith }
+
+  pub won_rests : lawful_open w (cond (eqb a (heights_of w)) (moved (aims s a) Holding Rest a a) (cond s.gave_up (cond (eqb a 0) away (moved (aims s a) Leaving ReadRole 1 a)) (moved (aims s a) Climbing ClaimApply (a + 1) a))) ≡ true → Rests w s (cond (eqb a (heights_of w)) (moved (aims s a) Holding Rest a a) (cond s.gave_up (cond (eqb a 0) away (moved (aims s a) Leaving ReadRole 1 a)) (moved (aims s a) Climbing ClaimApply (a + 1) a))) (low_of s) a
+  unfolding Won
+  won_rests =
+      cond_both (eqb a (heights_of w)) _ _ Won (λ e. won_holding)
+      (λ e. cond_both s.gave_up _ _ Won (λ g. cond_both (eqb a 0) _ _ Won (λ z. absurd (let q = eqb-true _ _ z in omega arith)) (λ z. won_leaving)) (λ g. won_climbing))
 
 module _ {b : BoxState} {G : Ghost} {p : ℕ} (A : Acts b G p (seat_at b p).height) (climbs : (seat_at b p).state ≡ Climbing) where
   abbrev s : Seat
@@ -63,6 +101,18 @@ module _ {b : BoxState} {G : Ghost} {p : ℕ} (A : Acts b G p (seat_at b p).heig
 
   stage : (stand_of s).stage ≡ 1
   stage = ap (λ x. Rattle.relation.proofs.Views.stage_in x) climbs
+
+  own_law : lawful_open w s ≡ true
+  own_law = A.related.sound.law p A.inside
+
+  small : s.passage.0 ≤ 16383
+  small = (climber_numbers w s own_law climbs).0
+
+  -- who climbs has not handed over
+  kept : s.handed ≡ false
+  kept =
+      let stands : s.handed ≡ true → ⊥ = λ e. let q = (A.related.sound.handed p A.inside e).0 in let r = ap state_number climbs in omega arith in
+      grind arith
 
   -- a step that changes nothing
   idles : Keeps b p (did b.cells s)
@@ -191,3 +241,39 @@ module _ {b : BoxState} {G : Ghost} {p : ℕ} (A : Acts b G p (seat_at b p).heig
     keeps_await_king =
         cond_both _ _ _ (Keeps b p) (λ d. idles)
         (λ d. cond_both _ _ _ (Keeps b p) (λ r. given (eqb-false _ _ d) r) (λ r. unfit))
+
+  module _ (e : s.place ≡ MarkApply) where
+    sixteen : place_number s.place ≡ 16
+    sixteen = ap place_number e
+
+    n₁₆ : stands_at s ≢ 0
+    n₁₆ = stands_climbing s climbs (λ d. let q = sixteen in omega arith) A.low
+
+    wins : (t : Seat) (ws : List ℕ) (x : Words) → Writing A ws x (c₀ A) (applies 2 (x₀ A).number (x₀ A)) (λ j y. y) → x.sync_one ≡ word_of b g SyncOne → Rests w s t (low_of s) s.aim → Next b p t ws
+    wins t ws x u y r =
+        let q = sixteen in
+        let k = capture w h H f (c₀ A) i (here A) (stand_of s) (x₀ A) (cells_ok A) (way_ok A n₁₆) stage sixteen in
+        turn_in A u t s.aim f Nothing (λ j l o d. y) (λ j l o. tt) n₁₆ r (grind (arith, nat_tests)) (calmly A (c₀ A) (stand_of s) (still 2) _ k)
+
+    rests : lawful_open w (captured (m A) s) ≡ true → Rests w s (captured (m A) s) (low_of s) s.aim
+    rests law = won_rests w s s.aim climbs kept A.low (won_far w s own_law climbs sixteen) law
+
+    same_marks : (n a : ℕ) → n ≡ (x₀ A).number → a ≡ 2 → applies a n (x₀ A) ≡ applies 2 (x₀ A).number (x₀ A)
+    same_marks n a d k = λ j. applies (k j) (d j) (x₀ A)
+
+    reached : lawful_open w (captured (m A) s) ≡ true → Next b p (captured (m A) s) (pair_promoted b.cells (m A) (m A).way s.passage.0)
+    reached law =
+        let y = winner_applies h H f (c₀ A) i (stand_of s) (x₀ A) (way_ok A n₁₆) stage sixteen in
+        let own = y.0 in
+        let n = s.passage.0 in
+        let apply = word_of b g (Apply (record { 0 = i })) in
+        cond_both _ _ _ (λ (ws : List ℕ). Next b p (captured (m A) s) ws)
+        (λ d.
+        let q : apply ≡ reg n = eqb-true _ _ d in
+        wins (captured (m A) s) _ _ (writes_as A (writes-apply A (writes_nothing A) (pro n) (let l = small in omega arith)) _ _ (same_marks (pro n / 4) (pro n % 4) (omega arith) (omega arith)) (λ j l o. refl)) refl (rests law))
+        (λ d.
+        let q : apply ≢ reg n = eqb-false _ _ d in
+        wins (captured (m A) s) _ _ (writes_as A (writes_nothing A) _ _ (same_marks (x₀ A).number (x₀ A).applied refl (elim y.1 [ inl r ↦ absurd (q (omega arith)) | inr r ↦ r ])) (λ j l o. refl)) refl (rests law))
+
+    pub keeps_mark_apply : Keeps b p (mark_apply_step (m A) s b.cells)
+    keeps_mark_apply law ok = reached law
