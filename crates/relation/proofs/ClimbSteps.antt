@@ -1,5 +1,5 @@
 -- The steps of a seat that tries to win a gate keep the relation: places 5, 7, 8 and 14. Assumes nothing.
-use Rattle.std.proofs.Common.{◌≡◌, ℕ, ◌<◌, ◌≤◌, ◌+◌, ◌%◌, ◌/◌, Bool, true, false, cond, eqb, ◌≢◌, ◌⊎◌, List, Ok, refl, ap, inl, inr, arith}
+use Rattle.std.proofs.Common.{◌≡◌, ℕ, ◌<◌, ◌≤◌, ◌+◌, ◌%◌, ◌/◌, Bool, true, false, cond, eqb, ◌≢◌, ◌⊎◌, List, Ok, sym, refl, ap, ◌∙◌, inl, inr, arith}
 use Rattle.std.proofs.lemmas.Bool.{cond_both, eqb-true, eqb-false}
 use Rattle.std.proofs.lemmas.Bool.Decides.{nat_tests}
 use Rattle.layout.specs.declared.path.Meeting.{Meeting}
@@ -16,18 +16,20 @@ use Rattle.steps.specs.declared.codes.Coin.TheVariants.{TryKing, TryQueen, TryPa
 use Rattle.steps.specs.declared.cells.Cell.TheVariants.{Count, SyncOne, Apply, Role}
 use Rattle.steps.specs.Codes.{reg, pro}
 use Rattle.steps.specs.Outcomes.{Outcome, did, unfit_at, put, pair_promoted, captured}
-use Rattle.steps.specs.Climb.{race_for_role_step, await_promotion_step, recheck_count_step, await_king_step, mark_apply_step}
+use Rattle.steps.specs.Climb.{claim_apply_step, race_for_role_step, await_promotion_step, recheck_count_step, await_king_step, mark_apply_step}
 use Rattle.lock.specs.States.{BoxState, seat_at}
 use Rattle.gate.proofs.Phases.{Phase, Stand, Marks, Cells, WayOk, CellsOk}
-use Rattle.gate.proofs.Gates.{still, applies, Nothing}
+use Rattle.gate.proofs.Gates.{still, applies, plays, Nothing}
 use Rattle.gate.proofs.Moves.{become_pawn, see_promotion, not_promoted, still_taken, race_again, read_hand_over, capture}
-use Rattle.gate.proofs.Turns.{become_king, become_queen}
-use Rattle.relation.proofs.Views.{word_of, Ghost, stands_at, stand_of, low_of, high_of, high_at}
+use Rattle.gate.proofs.Turns.{become_king, become_queen, claim_apply}
+use Rattle.relation.proofs.Views.{word_of, Ghost, stands_at, stand_of, stand_at, low_of, high_of, high_at}
+use Rattle.relation.proofs.Relation.{Late}
+use Rattle.relation.proofs.Frame.{SeatChange}
 use Rattle.relation.proofs.GateWords.{Words}
 use Rattle.relation.proofs.Acting.{Acts}
-use Rattle.relation.proofs.Polls.{Next, Goes, Rests}
-use Rattle.relation.proofs.Writings.{Writing, m, c₀, x₀, here, cells_ok, way_ok, writes_nothing, writes-count, writes-role, writes-apply, writes_as, go, turn_in, calmly}
-use Rattle.relation.proofs.Standing.{stands_climbing, next_same, queen_waits}
+use Rattle.relation.proofs.Polls.{Next, Goes, Rests, Ranges, begins}
+use Rattle.relation.proofs.Writings.{Writing, m, at-gate, c₀, x₀, here, cells_ok, way_ok, writes_nothing, writes-count, writes-role, writes-apply, writes_as, go, turn_in, calmly}
+use Rattle.relation.proofs.Standing.{stands_climbing, next_same, stander, queen_waits}
 
 -- a step that was done leaves a related box, given that its seat is lawful
 abbrev pub Keeps : BoxState → ℕ → Outcome (Unit {0}) → Type 0
@@ -277,3 +279,58 @@ module _ {b : BoxState} {G : Ghost} {p : ℕ} (A : Acts b G p (seat_at b p).heig
 
     pub keeps_mark_apply : Keeps b p (mark_apply_step (m A) s b.cells)
     keeps_mark_apply law ok = reached law
+
+  module _ (e : s.place ≡ ClaimApply) where
+    two : place_number s.place ≡ 2
+    two = ap place_number e
+
+    -- nobody who promotes keeps the number of this passage for this way
+    unkept : (j : ℕ) → j < w → j ≢ i → (stand_at b G h g j).place ≡ 70 → (stand_at b G h g j).kept_way ≡ i → s.passage.0 ≢ (stand_at b G h g j).kept_number
+    unkept j l o d k =
+        let t = stander b G A.related p h A.inside A.low A.high j l (λ r. omega arith) in
+        let q = t.0 in
+        let S = t.1 in
+        let late : Late b q (seat_at b q) = A.related.sound.late q S.inside (sym (ap (λ v. v.place) S.shows) ∙ d) in
+        let at : (seat_at b q).height ≡ h = S.height in
+        let way : (seat_at b q).kept_way.0 ≡ i = sym (ap (λ v. v.kept_way) S.shows) ∙ k in
+        let number : (stand_at b G h g j).kept_number ≡ (seat_at b q).kept_number.0 = ap (λ v. v.kept_number) S.shows in
+        λ c.
+        late.apart p A.inside (ap state_number climbs, inr (sym at, two)) (ap (λ y. gate_of w p y) at ∙ (sym S.gate ∙ ap (λ y. gate_of w q y) (sym at)))
+        (ap (λ y. way_of w p y) at ∙ sym way) (c ∙ number)
+
+    enters : word_of b g (Apply (record { 0 = i })) ≡ 0 → Keeps b p (did (put (put b.cells (m A) (Apply (m A).way) (reg s.passage.0)) (m A) (Role (m A).way) 0) (goes_to s RaceForRole))
+    enters d law ok =
+        let q = two in
+        let l = small in
+        let t = goes_to s RaceForRole in
+        let n = s.passage.0 in
+        let high = (climber_numbers w s own_law climbs).1 in
+        let v = stand_at b G h g i in
+        let E : ℕ → Stand → Marks → Type 0 = λ j u y. u.place ≡ 70 → u.kept_way ≡ i → n ≢ u.kept_number in
+        let wo : WayOk h H f (c₀ A) i v (x₀ A) = (at-gate A).gate.ways i (here A).way in
+        let k = claim_apply w h H f (c₀ A) i v (x₀ A) (stand_of t) (here A) (cells_ok A) wo (omega arith) stage refl in
+        let u = writes_as A (writes-role A (writes-apply A (writes_nothing A) (reg n) (omega arith)) 0) (plays 0 (applies 1 n (x₀ A))) (λ j y. y)
+            (let r : reg n % 4 ≡ 1 = omega arith in let r' : reg n / 4 ≡ n = omega arith in λ j. plays 0 (applies (r j) (r' j) (x₀ A))) (λ j l o. refl) in
+        let was : high_at b p ≡ s.top = grind (arith, nat_tests) in
+        let lo : low_of s ≡ 1 = grind arith in
+        let lo' : low_of t ≡ 1 = grind arith in
+        let low = A.low in
+        begins A t _ f _ u.store (c₀ A) (plays 0 (applies 1 n (x₀ A))) E (λ j y. y) u.marks (λ j l o r. refl) unkept h v refl
+        (record {
+          law = law;
+          handed = λ r. absurd (let z : ◌≡◌ {A = Bool} true false = (let v' = kept in cc) in grind arith);
+          passage = λ r. (r, refl);
+          given = A.related.sound.given p A.inside;
+          yet = λ j y. (y.0, elim y.1 [ inl r ↦ inl r | inr r ↦ absurd (let r₁ = r.1 in omega arith) ]);
+          late = λ r. absurd (omega arith);
+        })
+        (grind arith) (grind (arith, nat_tests)) refl
+        (record {
+          same = λ j a₀ a₁ a₂ a₃ a₄. (omega arith, omega arith);
+          back = λ j a₀ a₁ a₂ a₃ a₄. (omega arith, omega arith);
+          own = λ a₀ a₁. refl;
+          own_back = λ a₀. (omega arith, omega arith);
+        }) k
+
+    pub keeps_claim_apply : Keeps b p (claim_apply_step (m A) s b.cells)
+    keeps_claim_apply = cond_both _ _ _ (Keeps b p) (λ d. enters (eqb-true _ _ d)) (λ d. idles)
