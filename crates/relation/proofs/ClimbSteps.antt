@@ -1,8 +1,11 @@
--- The steps of a seat that tries to win a gate keep the relation: places 5, 7, 8 and 14. Assumes nothing.
+-- The steps of a seat that tries to win a gate keep the relation. Assumes nothing.
+--     Keeps      a step that was done leaves a related box, given that its seat is lawful
+--     won_rests  who has won the gates up to a height stands at none, however the capture ends
+--     keeps_claim_apply, keeps_race_for_role, keeps_await_promotion, keeps_recheck_count, keeps_await_king, keeps_mark_apply
+--                the places 2, 5, 7, 8, 14 and 16
 use Rattle.std.proofs.Common.{◌≡◌, ℕ, ◌<◌, ◌≤◌, ◌+◌, ◌%◌, ◌/◌, Bool, true, false, cond, eqb, ◌≢◌, ◌⊎◌, List, Ok, sym, refl, ap, ◌∙◌, inl, inr, arith}
 use Rattle.std.proofs.lemmas.Bool.{cond_both, eqb-true, eqb-false}
 use Rattle.std.proofs.lemmas.Bool.Decides.{nat_tests}
-use Rattle.layout.specs.declared.path.Meeting.{Meeting}
 use Rattle.layout.specs.Gates.{heights_of, gate_of, way_of}
 use Rattle.seats.specs.declared.seat.Seat.{Seat}
 use Rattle.seats.specs.declared.state.State.TheVariants.{Climbing, Holding, Leaving}
@@ -22,16 +25,14 @@ use Rattle.gate.proofs.Phases.{Phase, Stand, Marks, Cells, WayOk, CellsOk}
 use Rattle.gate.proofs.Gates.{still, applies, plays, Nothing}
 use Rattle.gate.proofs.Moves.{become_pawn, see_promotion, not_promoted, still_taken, race_again, read_hand_over, capture}
 use Rattle.gate.proofs.Turns.{become_king, become_queen, claim_apply}
-use Rattle.relation.proofs.Views.{word_of, Ghost, stands_at, stand_of, stand_at, low_of, high_of, high_at}
+use Rattle.relation.proofs.Views.{word_of, Ghost, stands_at, stage_in, stand_of, stand_at, low_of, high_at}
 use Rattle.relation.proofs.Relation.{Late}
-use Rattle.relation.proofs.Frame.{SeatChange}
 use Rattle.relation.proofs.GateWords.{Words}
 use Rattle.relation.proofs.Acting.{Acts}
-use Rattle.relation.proofs.Polls.{Next, Goes, Rests, Ranges, begins}
+use Rattle.relation.proofs.Polls.{Next, Goes, Rests, begins}
 use Rattle.relation.proofs.Writings.{Writing, m, at-gate, c₀, x₀, here, cells_ok, way_ok, writes_nothing, writes-count, writes-role, writes-apply, writes_as, go, turn_in, calmly}
 use Rattle.relation.proofs.Standing.{stands_climbing, next_same, stander, queen_waits}
 
--- a step that was done leaves a related box, given that its seat is lawful
 abbrev pub Keeps : BoxState → ℕ → Outcome (Unit {0}) → Type 0
 Keeps b p o = lawful_open b.ways o.seat ≡ true → o.answer ≡ Ok tt → Next b p o.seat o.cells
 
@@ -47,13 +48,14 @@ pawn_applies h H f c i v x wo e d = (grind arith, grind arith)
 winner_applies : (h H : ℕ) (f : Phase) (c : Cells) (i : ℕ) (v : Stand) (x : Marks) → WayOk h H f c i v x → v.stage ≡ 1 → v.place ≡ 16 → (x.number ≡ v.passage) × ((x.applied ≡ 1) ⊎ (x.applied ≡ 2))
 winner_applies h H f c i v x wo e d = (grind arith, grind arith)
 
+-- what a lawful record says of its numbers
 climber_numbers : (w : ℕ) (s : Seat) → lawful_open w s ≡ true → s.state ≡ Climbing → (s.passage.0 ≤ 16383) × (s.height ≡ s.top + 1)
 climber_numbers w s law climbs = (grind (arith, nat_tests), grind (arith, nat_tests))
 
 won_far : (w : ℕ) (s : Seat) → lawful_open w s ≡ true → s.state ≡ Climbing → place_number s.place ≡ 16 → s.height ≤ s.aim
 won_far w s law climbs e = grind (arith, nat_tests)
 
--- a seat that has won the gates up to a stands at none, in each of the three ways that a capture can end
+-- it holds, climbs on or leaves, and is never away: it has won a gate
 module _ (w : ℕ) (s : Seat) (a : ℕ) (climbs : s.state ≡ Climbing) (kept : s.handed ≡ false) (low : 1 ≤ s.height) (high : s.height ≤ a) where
   Won : Seat → Type 0
   Won t = lawful_open w t ≡ true → Rests w s t (low_of s) a
@@ -102,7 +104,7 @@ module _ {b : BoxState} {G : Ghost} {p : ℕ} (A : Acts b G p (seat_at b p).heig
   i = way_of w p h
 
   stage : (stand_of s).stage ≡ 1
-  stage = ap (λ x. Rattle.relation.proofs.Views.stage_in x) climbs
+  stage = ap stage_in climbs
 
   own_law : lawful_open w s ≡ true
   own_law = A.related.sound.law p A.inside
@@ -115,6 +117,9 @@ module _ {b : BoxState} {G : Ghost} {p : ℕ} (A : Acts b G p (seat_at b p).heig
   kept =
       let stands : s.handed ≡ true → ⊥ = λ e. let q = (A.related.sound.handed p A.inside e).0 in let r = ap state_number climbs in omega arith in
       grind arith
+
+  stands : (k : ℕ) → place_number s.place ≡ k → 5 ≤ k → stands_at s ≢ 0
+  stands k d l = stands_climbing s climbs (λ r. omega arith) A.low
 
   -- a step that changes nothing
   idles : Keeps b p (did b.cells s)
@@ -129,11 +134,9 @@ module _ {b : BoxState} {G : Ghost} {p : ℕ} (A : Acts b G p (seat_at b p).heig
     five : place_number s.place ≡ 5
     five = ap place_number e
 
-    n : stands_at s ≢ 0
-    n = stands_climbing s climbs (λ d. let q = five in omega arith) A.low
-
     king : word_of b g Count ≡ 0 → Keeps b p (did (put (put b.cells (m A) Count 1) (m A) (Role (m A).way) 1) (goes_to (aims s h) MarkApply))
     king d law ok =
+        let n = stands 5 five (omega arith) in
         let k = become_king w h H f (c₀ A) i (stand_of s) (x₀ A) (here A) (cells_ok A) (way_ok A n) stage five d in
         let q = five in
         go A (writes-role A (writes-count A (writes_nothing A) 1) 1) (goes_to (aims s h) MarkApply) k.0 Nothing (λ j l o r. refl) (λ j l o. tt) n
@@ -142,6 +145,7 @@ module _ {b : BoxState} {G : Ghost} {p : ℕ} (A : Acts b G p (seat_at b p).heig
 
     queen : word_of b g Count ≡ 1 → Keeps b p (did (put (put b.cells (m A) Count 2) (m A) (Role (m A).way) 2) (goes_to s AwaitKing))
     queen d law ok =
+        let n = stands 5 five (omega arith) in
         let k = become_queen w h H f (c₀ A) i (stand_of s) (x₀ A) (here A) (cells_ok A) (way_ok A n) stage five d in
         let q = five in
         let low = A.low in
@@ -152,6 +156,7 @@ module _ {b : BoxState} {G : Ghost} {p : ℕ} (A : Acts b G p (seat_at b p).heig
 
     pawn : word_of b g Count ≡ 2 → Keeps b p (did (put b.cells (m A) (Role (m A).way) 3) (goes_to s AwaitPromotion))
     pawn d law ok =
+        let n = stands 5 five (omega arith) in
         let k = become_pawn w h H f (c₀ A) i (here A) (stand_of s) (x₀ A) (cells_ok A) (way_ok A n) stage five d in
         let q = five in
         go A (writes-role A (writes_nothing A) 3) (goes_to s AwaitPromotion) f Nothing (λ j l o r. refl) (λ j l o. tt) n
@@ -169,8 +174,8 @@ module _ {b : BoxState} {G : Ghost} {p : ℕ} (A : Acts b G p (seat_at b p).heig
 
     taken : word_of b g Count ≡ 2 → Keeps b p (did b.cells (goes_to s AwaitPromotion))
     taken d law ok =
+        let n = stands 8 eight (omega arith) in
         let q = eight in
-        let n : stands_at s ≢ 0 = stands_climbing s climbs (λ r. omega arith) A.low in
         let k = still_taken w h H f (c₀ A) i (here A) (stand_of s) (x₀ A) (cells_ok A) (way_ok A n) stage eight d in
         go A (writes_nothing A) (goes_to s AwaitPromotion) f Nothing (λ j l o r. refl) (λ j l o. tt) n
         (along AwaitPromotion s.aim law (omega arith) (omega arith) (omega arith))
@@ -178,8 +183,8 @@ module _ {b : BoxState} {G : Ghost} {p : ℕ} (A : Acts b G p (seat_at b p).heig
 
     untaken : word_of b g Count ≢ 2 → Keeps b p (did b.cells (goes_to s RaceForRole))
     untaken d law ok =
+        let n = stands 8 eight (omega arith) in
         let q = eight in
-        let n : stands_at s ≢ 0 = stands_climbing s climbs (λ r. omega arith) A.low in
         let k = race_again w h H f (c₀ A) i (here A) (stand_of s) (x₀ A) (cells_ok A) (way_ok A n) stage eight d in
         go A (writes_nothing A) (goes_to s RaceForRole) f Nothing (λ j l o r. refl) (λ j l o. tt) n
         (along RaceForRole s.aim law (omega arith) (omega arith) (omega arith))
@@ -193,25 +198,24 @@ module _ {b : BoxState} {G : Ghost} {p : ℕ} (A : Acts b G p (seat_at b p).heig
     seven : place_number s.place ≡ 7
     seven = ap place_number e
 
-    n₇ : stands_at s ≢ 0
-    n₇ = stands_climbing s climbs (λ d. let q = seven in omega arith) A.low
-
     promoted : word_of b g (Apply (record { 0 = i })) ≡ pro s.passage.0 → Keeps b p (did (put b.cells (m A) (Role (m A).way) 4) (goes_to (aims s h) MarkApply))
     promoted d law ok =
+        let n = stands 7 seven (omega arith) in
         let q = seven in
-        let k = see_promotion w h H f (c₀ A) i (here A) (stand_of s) (x₀ A) (cells_ok A) (way_ok A n₇) stage seven (omega arith) in
-        go A (writes-role A (writes_nothing A) 4) (goes_to (aims s h) MarkApply) f Nothing (λ j l o r. refl) (λ j l o. tt) n₇
+        let k = see_promotion w h H f (c₀ A) i (here A) (stand_of s) (x₀ A) (cells_ok A) (way_ok A n) stage seven (omega arith) in
+        go A (writes-role A (writes_nothing A) 4) (goes_to (aims s h) MarkApply) f Nothing (λ j l o r. refl) (λ j l o. tt) n
         (along MarkApply h law (omega arith) (omega arith) (omega arith))
         (grind (arith, nat_tests)) (λ r. absurd (omega arith)) (calmly A (c₀ A) (stand_of s) (stand_of (goes_to (aims s h) MarkApply)) _ k)
 
     unpromoted : word_of b g (Apply (record { 0 = i })) ≢ pro s.passage.0 → Keeps b p (did b.cells (goes_to s RecheckCount))
     unpromoted d law ok =
+        let n = stands 7 seven (omega arith) in
         let q = seven in
-        let y = pawn_applies h H f (c₀ A) i (stand_of s) (x₀ A) (way_ok A n₇) stage seven in
+        let y = pawn_applies h H f (c₀ A) i (stand_of s) (x₀ A) (way_ok A n) stage seven in
         let y₀ = y.0 in
         let waits : (x₀ A).applied ≡ 1 = elim y.1 [ inl r ↦ r | inr r ↦ absurd (d (omega arith)) ] in
-        let k = not_promoted w h H f (c₀ A) i (here A) (stand_of s) (x₀ A) (cells_ok A) (way_ok A n₇) stage seven waits in
-        go A (writes_nothing A) (goes_to s RecheckCount) f Nothing (λ j l o r. refl) (λ j l o. tt) n₇
+        let k = not_promoted w h H f (c₀ A) i (here A) (stand_of s) (x₀ A) (cells_ok A) (way_ok A n) stage seven waits in
+        go A (writes_nothing A) (goes_to s RecheckCount) f Nothing (λ j l o r. refl) (λ j l o. tt) n
         (along RecheckCount s.aim law (omega arith) (omega arith) (omega arith))
         (grind (arith, nat_tests)) (λ r. absurd (omega arith)) (calmly A (c₀ A) (stand_of s) (stand_of (goes_to s RecheckCount)) _ k)
 
@@ -222,17 +226,15 @@ module _ {b : BoxState} {G : Ghost} {p : ℕ} (A : Acts b G p (seat_at b p).heig
     fourteen : place_number s.place ≡ 14
     fourteen = ap place_number e
 
-    n₁₄ : stands_at s ≢ 0
-    n₁₄ = stands_climbing s climbs (λ d. let q = fourteen in omega arith) A.low
-
     given : word_of b g SyncOne ≢ 0 → within h H (word_of b g SyncOne) ≡ true → Keeps b p (did b.cells (goes_to (aims s (word_of b g SyncOne)) MarkApply))
     given d r law ok =
+        let n = stands 14 fourteen (omega arith) in
         let q = fourteen in
         let a = word_of b g SyncOne in
-        let y = queen_waits w h H f (c₀ A) i (stand_of s) (x₀ A) (here A).low (here A).high (here A).most (cells_ok A) (way_ok A n₁₄) stage fourteen in
+        let y = queen_waits w h H f (c₀ A) i (stand_of s) (x₀ A) (here A).low (here A).high (here A).most (cells_ok A) (way_ok A n) stage fourteen in
         let y₀ = y.0 in
-        let k = read_hand_over w h H f (c₀ A) i (here A) (stand_of s) (x₀ A) (cells_ok A) (way_ok A n₁₄) stage fourteen d in
-        go A (writes_nothing A) (goes_to (aims s a) MarkApply) f Nothing (λ j l o r. refl) (λ j l o. tt) n₁₄
+        let k = read_hand_over w h H f (c₀ A) i (here A) (stand_of s) (x₀ A) (cells_ok A) (way_ok A n) stage fourteen d in
+        go A (writes_nothing A) (goes_to (aims s a) MarkApply) f Nothing (λ j l o r. refl) (λ j l o. tt) n
         (along MarkApply a law (omega arith) (omega arith) (omega arith))
         (grind (arith, nat_tests)) (λ r. absurd (omega arith)) (calmly A (c₀ A) (stand_of s) (stand_of (goes_to (aims s a) MarkApply)) _ k)
 
@@ -248,14 +250,12 @@ module _ {b : BoxState} {G : Ghost} {p : ℕ} (A : Acts b G p (seat_at b p).heig
     sixteen : place_number s.place ≡ 16
     sixteen = ap place_number e
 
-    n₁₆ : stands_at s ≢ 0
-    n₁₆ = stands_climbing s climbs (λ d. let q = sixteen in omega arith) A.low
-
     wins : (t : Seat) (ws : List ℕ) (x : Words) → Writing A ws x (c₀ A) (applies 2 (x₀ A).number (x₀ A)) (λ j y. y) → x.sync_one ≡ word_of b g SyncOne → Rests w s t (low_of s) s.aim → Next b p t ws
     wins t ws x u y r =
+        let n = stands 16 sixteen (omega arith) in
         let q = sixteen in
-        let k = capture w h H f (c₀ A) i (here A) (stand_of s) (x₀ A) (cells_ok A) (way_ok A n₁₆) stage sixteen in
-        turn_in A u t s.aim f Nothing (λ j l o d. y) (λ j l o. tt) n₁₆ r (grind (arith, nat_tests)) (calmly A (c₀ A) (stand_of s) (still 2) _ k)
+        let k = capture w h H f (c₀ A) i (here A) (stand_of s) (x₀ A) (cells_ok A) (way_ok A n) stage sixteen in
+        turn_in A u t s.aim f Nothing (λ j l o d. y) (λ j l o. tt) n r (grind (arith, nat_tests)) (calmly A (c₀ A) (stand_of s) (still 2) _ k)
 
     rests : lawful_open w (captured (m A) s) ≡ true → Rests w s (captured (m A) s) (low_of s) s.aim
     rests law = won_rests w s s.aim climbs kept A.low (won_far w s own_law climbs sixteen) law
@@ -265,16 +265,17 @@ module _ {b : BoxState} {G : Ghost} {p : ℕ} (A : Acts b G p (seat_at b p).heig
 
     reached : lawful_open w (captured (m A) s) ≡ true → Next b p (captured (m A) s) (pair_promoted b.cells (m A) (m A).way s.passage.0)
     reached law =
-        let y = winner_applies h H f (c₀ A) i (stand_of s) (x₀ A) (way_ok A n₁₆) stage sixteen in
+        let n = stands 16 sixteen (omega arith) in
+        let y = winner_applies h H f (c₀ A) i (stand_of s) (x₀ A) (way_ok A n) stage sixteen in
         let own = y.0 in
-        let n = s.passage.0 in
+        let number = s.passage.0 in
         let apply = word_of b g (Apply (record { 0 = i })) in
         cond_both _ _ _ (λ (ws : List ℕ). Next b p (captured (m A) s) ws)
         (λ d.
-        let q : apply ≡ reg n = eqb-true _ _ d in
-        wins (captured (m A) s) _ _ (writes_as A (writes-apply A (writes_nothing A) (pro n) (let l = small in omega arith)) _ _ (same_marks (pro n / 4) (pro n % 4) (omega arith) (omega arith)) (λ j l o. refl)) refl (rests law))
+        let q : apply ≡ reg number = eqb-true _ _ d in
+        wins (captured (m A) s) _ _ (writes_as A (writes-apply A (writes_nothing A) (pro number) (let l = small in omega arith)) _ _ (same_marks (pro number / 4) (pro number % 4) (omega arith) (omega arith)) (λ j l o. refl)) refl (rests law))
         (λ d.
-        let q : apply ≢ reg n = eqb-false _ _ d in
+        let q : apply ≢ reg number = eqb-false _ _ d in
         wins (captured (m A) s) _ _ (writes_as A (writes_nothing A) _ _ (same_marks (x₀ A).number (x₀ A).applied refl (elim y.1 [ inl r ↦ absurd (q (omega arith)) | inr r ↦ r ])) (λ j l o. refl)) refl (rests law))
 
     pub keeps_mark_apply : Keeps b p (mark_apply_step (m A) s b.cells)
@@ -310,7 +311,7 @@ module _ {b : BoxState} {G : Ghost} {p : ℕ} (A : Acts b G p (seat_at b p).heig
         let wo : WayOk h H f (c₀ A) i v (x₀ A) = (at-gate A).gate.ways i (here A).way in
         let k = claim_apply w h H f (c₀ A) i v (x₀ A) (stand_of t) (here A) (cells_ok A) wo (omega arith) stage refl in
         let u = writes_as A (writes-role A (writes-apply A (writes_nothing A) (reg n) (omega arith)) 0) (plays 0 (applies 1 n (x₀ A))) (λ j y. y)
-            (let r : reg n % 4 ≡ 1 = omega arith in let r' : reg n / 4 ≡ n = omega arith in λ j. plays 0 (applies (r j) (r' j) (x₀ A))) (λ j l o. refl) in
+        (let r : reg n % 4 ≡ 1 = omega arith in let r' : reg n / 4 ≡ n = omega arith in λ j. plays 0 (applies (r j) (r' j) (x₀ A))) (λ j l o. refl) in
         let was : high_at b p ≡ s.top = grind (arith, nat_tests) in
         let lo : low_of s ≡ 1 = grind arith in
         let lo' : low_of t ≡ 1 = grind arith in
