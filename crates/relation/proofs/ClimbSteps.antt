@@ -3,9 +3,10 @@
 --     won_rests  who has won the gates up to a height stands at none, however the capture ends
 --     keeps_claim_apply, keeps_race_for_role, keeps_await_promotion, keeps_recheck_count, keeps_await_king, keeps_mark_apply
 --                the places 2, 5, 7, 8, 14 and 16
-use Rattle.std.proofs.Common.{◌≡◌, ℕ, ◌<◌, ◌≤◌, ◌+◌, ◌%◌, ◌/◌, Bool, true, false, cond, eqb, ◌≢◌, ◌⊎◌, List, Ok, sym, refl, ap, ◌∙◌, inl, inr, arith}
+use Rattle.std.proofs.Common.{◌≡◌, ℕ, ◌<◌, ◌≤◌, ◌+◌, ◌%◌, ◌/◌, Bool, true, false, eqb, ◌≢◌, ◌⊎◌, List, Ok, sym, refl, ap, ◌∙◌, inl, inr, arith}
 use Rattle.std.proofs.lemmas.Bool.{cond_both, eqb-true, eqb-false}
 use Rattle.std.proofs.lemmas.Bool.Decides.{nat_tests}
+use Rattle.layout.specs.declared.path.Meeting.{Meeting}
 use Rattle.layout.specs.Gates.{heights_of, gate_of, way_of}
 use Rattle.seats.specs.declared.seat.Seat.{Seat}
 use Rattle.seats.specs.declared.state.State.TheVariants.{Climbing, Holding, Leaving}
@@ -13,7 +14,7 @@ use Rattle.seats.specs.declared.place.Place.{Place}
 use Rattle.seats.specs.declared.place.Place.TheVariants.{Rest, ClaimApply, ReadRole, RaceForRole, AwaitPromotion, RecheckCount, AwaitKing, MarkApply}
 use Rattle.seats.specs.Lawful.{lawful_open}
 use Rattle.seats.specs.Places.{state_number, place_number, within}
-use Rattle.seats.specs.Seats.{goes_to, aims, moved, away}
+use Rattle.seats.specs.Seats.{goes_to, aims, moved}
 use Rattle.steps.specs.declared.codes.Coin.{Coin}
 use Rattle.steps.specs.declared.codes.Coin.TheVariants.{TryKing, TryQueen, TryPawn}
 use Rattle.steps.specs.declared.cells.Cell.TheVariants.{Count, SyncOne, Apply, Role}
@@ -55,10 +56,10 @@ climber_numbers w s law climbs = (grind (arith, nat_tests), grind (arith, nat_te
 won_far : (w : ℕ) (s : Seat) → lawful_open w s ≡ true → s.state ≡ Climbing → place_number s.place ≡ 16 → s.height ≤ s.aim
 won_far w s law climbs e = grind (arith, nat_tests)
 
--- it holds, climbs on or leaves, and is never away: it has won a gate
-module _ (w : ℕ) (s : Seat) (a : ℕ) (climbs : s.state ≡ Climbing) (kept : s.handed ≡ false) (low : 1 ≤ s.height) (high : s.height ≤ a) where
+-- who has won gates up to a holds, climbs on or leaves
+module _ (o : Meeting) (s : Seat) (a : ℕ) (climbs : s.state ≡ Climbing) (kept : s.handed ≡ false) (low : 1 ≤ s.height) (high : s.height ≤ a) where
   Won : Seat → Type 0
-  Won t = lawful_open w t ≡ true → Rests w s t (low_of s) a
+  Won t = lawful_open o.ways t ≡ true → Rests o.ways s t (low_of s) a
 
   won_holding : Won (moved (aims s a) Holding Rest a a)
   unfolding Won
@@ -75,10 +76,10 @@ module _ (w : ℕ) (s : Seat) (a : ℕ) (climbs : s.state ≡ Climbing) (kept : 
   won_leaving law =
       record { law = law; nowhere = refl; handed = kept; passage = λ e. refl; given = omega arith; yet = λ k y. absurd (let q = y.0 in omega arith); place = λ e. omega arith; low = grind arith; high = λ r v. grind arith }
 
-  pub won_rests : lawful_open w (cond (eqb a (heights_of w)) (moved (aims s a) Holding Rest a a) (cond s.gave_up (cond (eqb a 0) away (moved (aims s a) Leaving ReadRole 1 a)) (moved (aims s a) Climbing ClaimApply (a + 1) a))) ≡ true → Rests w s (cond (eqb a (heights_of w)) (moved (aims s a) Holding Rest a a) (cond s.gave_up (cond (eqb a 0) away (moved (aims s a) Leaving ReadRole 1 a)) (moved (aims s a) Climbing ClaimApply (a + 1) a))) (low_of s) a
+  pub won_rests : lawful_open o.ways (captured o (aims s a)) ≡ true → Rests o.ways s (captured o (aims s a)) (low_of s) a
   unfolding Won
   won_rests =
-      cond_both (eqb a (heights_of w)) _ _ Won (λ e. won_holding)
+      cond_both (eqb a (heights_of o.ways)) _ _ Won (λ e. won_holding)
       (λ e. cond_both s.gave_up _ _ Won (λ g. cond_both (eqb a 0) _ _ Won (λ z. absurd (let q = eqb-true _ _ z in omega arith)) (λ z. won_leaving)) (λ g. won_climbing))
 
 module _ {b : BoxState} {G : Ghost} {p : ℕ} (A : Acts b G p (seat_at b p).height) (climbs : (seat_at b p).state ≡ Climbing) where
@@ -258,7 +259,7 @@ module _ {b : BoxState} {G : Ghost} {p : ℕ} (A : Acts b G p (seat_at b p).heig
         turn_in A u t s.aim f Nothing (λ j l o d. y) (λ j l o. tt) n r (grind (arith, nat_tests)) (calmly A (c₀ A) (stand_of s) (still 2) _ k)
 
     rests : lawful_open w (captured (m A) s) ≡ true → Rests w s (captured (m A) s) (low_of s) s.aim
-    rests law = won_rests w s s.aim climbs kept A.low (won_far w s own_law climbs sixteen) law
+    rests law = won_rests (m A) s s.aim climbs kept A.low (won_far w s own_law climbs sixteen) law
 
     same_marks : (n a : ℕ) → n ≡ (x₀ A).number → a ≡ 2 → applies a n (x₀ A) ≡ applies 2 (x₀ A).number (x₀ A)
     same_marks n a d k = λ j. applies (k j) (d j) (x₀ A)
