@@ -24,7 +24,7 @@ use Rattle.gate.proofs.Phases.{Phase, Stand, Marks, Cells, WayOk, CellsOk}
 use Rattle.gate.proofs.Gates.{Nothing, Height, Calm, still, to, applies, plays, lists, scanning, syncs_one}
 use Rattle.gate.proofs.Moves.{close_queen, close_pawn, abort_pawn, abort_late, abort_queen, already_handed, accept_gate, withdraw_apply}
 use Rattle.relation.proofs.PawnLaws.{lane-same, lane-other, with_fits}
-use Rattle.relation.proofs.Views.{word_of, Ghost, stage_in, stands_at, stand_of, low_in, low_of, reach_of, high_in, high_of, high_at}
+use Rattle.relation.proofs.Views.{word_of, Ghost, stage_in, stands_at, stand_of, marks_of, low_in, low_of, reach_of, high_in, high_of, high_at}
 use Rattle.relation.proofs.Acting.{Acts, Queenly}
 use Rattle.relation.proofs.Polls.{Next, Goes, Rests, Ranges, SyncKept, rests-gone}
 use Rattle.relation.proofs.GateWords.{Words, words_of}
@@ -200,6 +200,35 @@ module _ {b : BoxState} {G : Ghost} {p : ℕ} (A : Acts b G p (seat_at b p).heig
         })
         (calmly A (c₀ A) (stand_of s) (still 0) (applies 0 0 (x₀ A)) k)
 
+    struck : place_number s.place ≡ 21 → lane (word_of b g Pawns) i % 4 ≢ 2 → Keeps b p (did (put b.cells (m A) Pawns (with_lane (word_of b g Pawns) i (pair s.passage.0 3))) (goes_to s WithdrawApply))
+    struck q d law ok =
+        let k = abort_pawn w h H f (c₀ A) i (here A) (stand_of s) (x₀ A) (cells_ok A) (way_ok A n) stage q d in
+        let z = A.related.sound.sized in
+        let few = (climber-facts w s (A.related.sound.law p A.inside) state).0 in
+        let x = pair s.passage.0 3 in
+        let fits : x < 65536 = omega arith in
+        let il : i < 4 = let a = (here A).way in let c = z.most in omega arith in
+        let v = word_of b g Pawns in
+        let own = lane-same v i x il fits in
+        let three : lane (with_lane v i x) i % 4 ≡ 3 = omega arith in
+        let number : lane (with_lane v i x) i / 4 ≡ s.passage.0 = omega arith in
+        let u = writes_as A (writes-pawns A (writes_nothing A) (with_lane v i x) (with_fits v i x (at-gate A).pawns il fits))
+        (lists 3 s.passage.0 (x₀ A)) (λ j y. y) (λ t. lists (three t) (number t) (x₀ A))
+        (λ j l o. λ t. marks_of (word_of b g (Apply (record { 0 = j }))) (word_of b g (Role (record { 0 = j }))) (lane-other v i j x il fits o t)) in
+        go A u (goes_to s WithdrawApply) f Nothing (λ j l o r. refl) (λ j l o. tt) n
+        (record { law = law; state = refl; height = refl; handed = refl; passage = refl; within = omega arith; begun = omega arith; later = λ r. omega arith })
+        (high_climbing w (x₀ A).role (c₀ A).sync_one h (goes_to s WithdrawApply) state (reach_alone w 32 (x₀ A).role (c₀ A).sync_one s (inl refl))
+        ∙ sym (high_climbing w (x₀ A).role (c₀ A).sync_one h s state (reach_alone w (place_number s.place) (x₀ A).role (c₀ A).sync_one s (inr (q, no_queen w h H f (c₀ A) i (here A) (stand_of s) (x₀ A) (cells_ok A) (way_ok A n) stage q)))))
+        (λ r. absurd (omega arith)) (calmly A (c₀ A) (stand_of s) (to 32 (stand_of s)) (lists 3 s.passage.0 (x₀ A)) k)
+
+    late : place_number s.place ≡ 21 → lane (word_of b g Pawns) i % 4 ≡ 2 → Keeps b p (did (put b.cells (m A) (Role (m A).way) 4) (captured (m A) (aims s h)))
+    late q d law ok =
+        let k = abort_late w h H f (c₀ A) i (here A) (stand_of s) (x₀ A) (cells_ok A) (way_ok A n) stage q d in
+        turn_in A (writes-role A (writes_nothing A) 4) (captured (m A) (aims s h)) h f Nothing (λ j l o r. refl) (λ j l o. tt) n
+        (captured_rests (m A) s h state (kept state) A.low (omega arith) law)
+        (high_climbing w (x₀ A).role (c₀ A).sync_one h s state (reach_alone w (place_number s.place) (x₀ A).role (c₀ A).sync_one s (inr (q, no_queen w h H f (c₀ A) i (here A) (stand_of s) (x₀ A) (cells_ok A) (way_ok A n) stage q))))
+        (calmly A (c₀ A) (stand_of s) (still 2) (plays 4 (x₀ A)) k)
+
     taken : place_number s.place ≡ 27 → within h H (word_of b g SyncOne) ≡ true → Keeps b p (did b.cells (captured (m A) (aims s (word_of b g SyncOne))))
     taken q d law ok =
         let k = accept_gate w h H f (c₀ A) i (here A) (stand_of s) (x₀ A) (cells_ok A) (way_ok A n) stage q in
@@ -253,6 +282,14 @@ module _ {b : BoxState} {G : Ghost} {p : ℕ} (A : Acts b G p (seat_at b p).heig
       cond_both (holds b.cells (m A) (Apply (m A).way) (pro s.passage.0)) _ _ (λ ws. Keeps b p (did ws (backed_out s)))
       (λ d. withdrawn l past q (eqb-true _ _ d))
       (λ d. absurd (eqb-false _ _ d (omega arith)))
+
+  pub keeps_abort_pawn : s.place ≡ AbortPawn → Keeps b p (abort_pawn_step (m A) s b.cells)
+  keeps_abort_pawn e =
+      let q : place_number s.place ≡ 21 = ap place_number e in
+      let l : place_number s.place ≤ 32 = omega arith in
+      let past : place_number s.place ≢ 2 = λ d. omega arith in
+      cond_both (eqb (lane (word_of b g Pawns) i % 4) 2) None (Some (with_lane (word_of b g Pawns) i (pair s.passage.0 3))) (λ o. Keeps b p (aborted_by o (m A) s b.cells))
+      (λ d. late l past q (eqb-true _ _ d)) (λ d. struck l past q (eqb-false _ _ d))
 
   pub keeps_accept_gate : s.place ≡ AcceptGate → Keeps b p (accept_gate_step (m A) s b.cells)
   keeps_accept_gate e =
