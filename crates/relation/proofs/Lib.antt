@@ -18,3 +18,4 @@ pub mod Writings
 pub mod Standing
 pub mod ClimbSteps
 pub mod AbortSteps
+pub mod CloseSteps
