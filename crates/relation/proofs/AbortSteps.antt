@@ -2,14 +2,13 @@
 --     captured_rests                         a seat that has won gates stands at none
 --     keeps_close_apply, keeps_abort_queen, keeps_withdraw_apply, keeps_abort_pawn, keeps_accept_gate
 --                                            the step of each place
-use Rattle.std.proofs.Common.{◌≡◌, ℕ, ◌+◌, ◌*◌, ◌/◌, ◌%◌, ◌<◌, ◌≤◌, Bool, cond, eqb, true, false, ◌≢◌, ◌⊎◌, List, Ok, Some, None, Option, sym, refl, ap, ◌∙◌, subst, inl, inr, arith}
+use Rattle.std.proofs.Common.{◌≡◌, ℕ, ◌+◌, ◌/◌, ◌%◌, ◌<◌, ◌≤◌, cond, eqb, true, false, ◌≢◌, ◌⊎◌, List, Some, None, sym, refl, ap, ◌∙◌, inl, inr, arith}
 use Rattle.std.proofs.lemmas.Bool.{cond_both, eqb-true, eqb-false, false_from_ne_true}
 use Rattle.std.proofs.lemmas.Bool.Decides.{nat_tests}
 use Rattle.layout.specs.declared.path.Meeting.{Meeting}
 use Rattle.layout.specs.Gates.{heights_of, gate_of, way_of}
 use Rattle.seats.specs.declared.seat.Seat.{Seat}
 use Rattle.seats.specs.declared.state.State.TheVariants.{Climbing, Holding, Leaving}
-use Rattle.seats.specs.declared.place.Place.{Place}
 use Rattle.seats.specs.declared.place.Place.TheVariants.{Rest, ReadRole, ClaimApply, CloseApply, AbortPawn, AbortQueen, AcceptGate, WithdrawApply, ScanApply}
 use Rattle.seats.specs.Lawful.{lawful_open}
 use Rattle.seats.specs.Places.{state_number, place_number, within}
@@ -17,17 +16,17 @@ use Rattle.seats.specs.Seats.{away, moved, goes_to, scans, aims, backed_out}
 use Rattle.steps.specs.declared.cells.Cell.TheVariants.{SyncOne, Pawns, Apply, Role}
 use Rattle.steps.specs.Codes.{pair, reg, pro}
 use Rattle.steps.specs.Pawns.{lane, with_lane}
-use Rattle.steps.specs.Outcomes.{did, unfit_at, word, put, holds, swapped, pair_promoted, captured}
+use Rattle.steps.specs.Outcomes.{did, put, holds, captured}
 use Rattle.steps.specs.Abort.{close_apply_step, aborted_by, abort_pawn_step, abort_queen_step, accept_gate_step, withdraw_apply_step}
 use Rattle.lock.specs.States.{BoxState, seat_at}
 use Rattle.gate.proofs.Phases.{Phase, Stand, Marks, Cells, WayOk, CellsOk}
-use Rattle.gate.proofs.Gates.{Nothing, Height, Calm, still, to, applies, plays, lists, scanning, syncs_one}
+use Rattle.gate.proofs.Gates.{Nothing, Height, still, to, applies, plays, lists, scanning, syncs_one}
 use Rattle.gate.proofs.Moves.{close_queen, close_pawn, abort_pawn, abort_late, abort_queen, already_handed, accept_gate, withdraw_apply}
 use Rattle.relation.proofs.PawnLaws.{lane-same, lane-other, with_fits}
 use Rattle.relation.proofs.Views.{word_of, Ghost, stage_in, stands_at, stand_of, marks_of, low_in, low_of, reach_of, high_in, high_of, high_at}
 use Rattle.relation.proofs.Acting.{Acts, Queenly}
-use Rattle.relation.proofs.Polls.{Next, Goes, Rests, Ranges, SyncKept, rests-gone}
-use Rattle.relation.proofs.GateWords.{Words, words_of}
+use Rattle.relation.proofs.Polls.{Rests, rests-gone}
+use Rattle.relation.proofs.GateWords.{Words}
 use Rattle.relation.proofs.Writings.{m, c₀, x₀, here, at-gate, cells_ok, way_ok, Writing, writes_nothing, writes-apply, writes-role, writes-pawns, writes-sync-one, writes_as, go, turn_in, calmly}
 use Rattle.relation.proofs.Standing.{stands_climbing, queen_accepts}
 use Rattle.relation.proofs.ClimbSteps.{Keeps}

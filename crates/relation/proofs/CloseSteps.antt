@@ -3,7 +3,7 @@
 --     high_past                            past place 27 a seat occupies what it occupied
 --     closes_gate                          a step after which the seat withdraws its application
 --     keeps_race_to_close, keeps_clear_sync_one   the step of each place
-use Rattle.std.proofs.Common.{◌≡◌, ℕ, ◌+◌, ◌<◌, ◌≤◌, cond, eqb, true, ◌≢◌, ◌⊎◌, List, Ok, sym, refl, ap, ◌∙◌, subst, inl, inr, arith}
+use Rattle.std.proofs.Common.{◌≡◌, ℕ, ◌+◌, ◌<◌, ◌≤◌, cond, eqb, true, ◌≢◌, ◌⊎◌, List, sym, refl, ap, ◌∙◌, subst, inl, inr, arith}
 use Rattle.std.proofs.lemmas.Bool.{cond_both, eqb-true, eqb-false}
 use Rattle.std.proofs.lemmas.Bool.Decides.{nat_tests}
 use Rattle.layout.specs.Gates.{heights_of, gate_of, way_of}
@@ -15,18 +15,17 @@ use Rattle.seats.specs.declared.place.Place.TheVariants.{RaceToClose, ClearSyncO
 use Rattle.seats.specs.Lawful.{lawful_open}
 use Rattle.seats.specs.Places.{state_number, place_number}
 use Rattle.seats.specs.Seats.{goes_to}
-use Rattle.steps.specs.declared.cells.Cell.TheVariants.{SyncOne, SyncTwo}
+use Rattle.steps.specs.declared.cells.Cell.TheVariants.{SyncTwo}
 use Rattle.steps.specs.Outcomes.{did, put, closes_in, closes}
 use Rattle.steps.specs.HelpRelease.{race_to_close_step, clear_sync_one_step}
 use Rattle.lock.specs.States.{BoxState, seat_at}
 use Rattle.gate.proofs.Phases.{Phase, idle, solo, pair, clean, free, drain, prom, Stand, Marks, Cells, WayOk, CellsOk}
-use Rattle.gate.proofs.Gates.{Nothing, Height, Turn, closing, to, syncs_one, syncs_two}
+use Rattle.gate.proofs.Gates.{Nothing, closing, to, syncs_two}
 use Rattle.gate.proofs.Moves.{close_first, come_second}
 use Rattle.gate.proofs.Turns.{clear_sync_one}
-use Rattle.relation.proofs.Views.{word_of, Ghost, stage_in, stands_in, stands_at, low_of, stand_of, reach_of, high_in, high_of, high_at}
-use Rattle.relation.proofs.Frame.{SeatChange}
+use Rattle.relation.proofs.Views.{word_of, Ghost, stage_in, stands_in, stands_at, low_of, stand_of, reach_of, high_in, high_at}
 use Rattle.relation.proofs.Acting.{Acts, Queenly, occupies_own}
-use Rattle.relation.proofs.Polls.{Next, Goes, Ranges, live_standing, SyncKept, Known, MoveOf, stand_was, begins}
+use Rattle.relation.proofs.Polls.{Next, live_standing, SyncKept, Known, MoveOf, stand_was, begins}
 use Rattle.relation.proofs.GateWords.{Words}
 use Rattle.relation.proofs.Writings.{m, c₀, x₀, here, at-gate, cells_ok, way_ok, Writing, writes_nothing, writes-sync-one, writes-sync-two, go, calmly}
 use Rattle.relation.proofs.Standing.{stands_climbing, stands_leaving}
