@@ -20,7 +20,7 @@ use Rattle.steps.specs.Outcomes.{did, put, holds, captured}
 use Rattle.steps.specs.Abort.{close_apply_step, aborted_by, abort_pawn_step, abort_queen_step, accept_gate_step, withdraw_apply_step}
 use Rattle.lock.specs.States.{BoxState, seat_at}
 use Rattle.gate.proofs.Phases.{Phase, Stand, Marks, Cells, WayOk, CellsOk}
-use Rattle.gate.proofs.Gates.{Nothing, Height, still, to, applies, plays, lists, scanning, syncs_one}
+use Rattle.gate.proofs.Gates.{Nothing, still, to, applies, plays, lists, scanning, syncs_one}
 use Rattle.gate.proofs.Moves.{close_queen, close_pawn, abort_pawn, abort_late, abort_queen, already_handed, accept_gate, withdraw_apply}
 use Rattle.relation.proofs.PawnLaws.{lane-same, lane-other, with_fits}
 use Rattle.relation.proofs.Views.{word_of, Ghost, stage_in, stands_at, stand_of, marks_of, low_in, low_of, reach_of, high_in, high_of, high_at}
@@ -77,7 +77,7 @@ module _ (m : Meeting) (s : Seat) (a : ℕ) (state : s.state ≡ Climbing) (kept
       (λ d. rests_climbing))
 
 -- what a way shows whose seat gives up
-module _ (w h H : ℕ) (f : Phase) (c : Cells) (i : ℕ) (l : Height w h H i) (v : Stand) (x : Marks) (co : CellsOk w h H f c) (wo : WayOk h H f c i v x) (climbing : v.stage ≡ 1) where
+module _ (w h H : ℕ) (f : Phase) (c : Cells) (i : ℕ) (v : Stand) (x : Marks) (co : CellsOk w h H f c) (wo : WayOk h H f c i v x) (climbing : v.stage ≡ 1) where
   shows_closing : v.place ≡ 19 → (x.number ≡ v.passage) × ((x.applied ≡ 1) ⊎ (x.applied ≡ 2))
   shows_closing e = (grind arith, grind arith)
 
@@ -158,7 +158,7 @@ module _ {b : BoxState} {G : Ghost} {p : ℕ} (A : Acts b G p (seat_at b p).heig
     gone q d law ok =
         let k = abort_queen w h H f (c₀ A) i (here A) (stand_of s) (x₀ A) (cells_ok A) (way_ok A n) stage q d in
         go A (writes-sync-one A (writes_nothing A) 15) (goes_to (scans s 0) ScanApply) f Nothing
-        (λ j l o r. absurd (sole_queen w h H f (c₀ A) i (here A) (stand_of s) (x₀ A) (cells_ok A) (way_ok A n) stage q j _ _ ((at-gate A).gate.ways j l) o r))
+        (λ j l o r. absurd (sole_queen w h H f (c₀ A) i (stand_of s) (x₀ A) (cells_ok A) (way_ok A n) stage q j _ _ ((at-gate A).gate.ways j l) o r))
         (λ j l o. tt) n
         (record { law = law; state = refl; height = refl; handed = refl; passage = refl; within = omega arith; begun = omega arith; later = λ r. omega arith })
         (grind (arith, nat_tests)) (λ r. absurd (omega arith)) (calmly A (syncs_one 15 (c₀ A)) (stand_of s) (to 52 (scanning 0 (stand_of s).noted (stand_of s))) (x₀ A) k)
@@ -217,7 +217,7 @@ module _ {b : BoxState} {G : Ghost} {p : ℕ} (A : Acts b G p (seat_at b p).heig
         go A u (goes_to s WithdrawApply) f Nothing (λ j l o r. refl) (λ j l o. tt) n
         (record { law = law; state = refl; height = refl; handed = refl; passage = refl; within = omega arith; begun = omega arith; later = λ r. omega arith })
         (high_climbing w (x₀ A).role (c₀ A).sync_one h (goes_to s WithdrawApply) state (reach_alone w 32 (x₀ A).role (c₀ A).sync_one s (inl refl))
-        ∙ sym (high_climbing w (x₀ A).role (c₀ A).sync_one h s state (reach_alone w (place_number s.place) (x₀ A).role (c₀ A).sync_one s (inr (q, no_queen w h H f (c₀ A) i (here A) (stand_of s) (x₀ A) (cells_ok A) (way_ok A n) stage q)))))
+        ∙ sym (high_climbing w (x₀ A).role (c₀ A).sync_one h s state (reach_alone w (place_number s.place) (x₀ A).role (c₀ A).sync_one s (inr (q, no_queen w h H f (c₀ A) i (stand_of s) (x₀ A) (cells_ok A) (way_ok A n) stage q)))))
         (λ r. absurd (omega arith)) (calmly A (c₀ A) (stand_of s) (to 32 (stand_of s)) (lists 3 s.passage.0 (x₀ A)) k)
 
     late : place_number s.place ≡ 21 → lane (word_of b g Pawns) i % 4 ≡ 2 → Keeps b p (did (put b.cells (m A) (Role (m A).way) 4) (captured (m A) (aims s h)))
@@ -225,7 +225,7 @@ module _ {b : BoxState} {G : Ghost} {p : ℕ} (A : Acts b G p (seat_at b p).heig
         let k = abort_late w h H f (c₀ A) i (here A) (stand_of s) (x₀ A) (cells_ok A) (way_ok A n) stage q d in
         turn_in A (writes-role A (writes_nothing A) 4) (captured (m A) (aims s h)) h f Nothing (λ j l o r. refl) (λ j l o. tt) n
         (captured_rests (m A) s h state (kept state) A.low (omega arith) law)
-        (high_climbing w (x₀ A).role (c₀ A).sync_one h s state (reach_alone w (place_number s.place) (x₀ A).role (c₀ A).sync_one s (inr (q, no_queen w h H f (c₀ A) i (here A) (stand_of s) (x₀ A) (cells_ok A) (way_ok A n) stage q))))
+        (high_climbing w (x₀ A).role (c₀ A).sync_one h s state (reach_alone w (place_number s.place) (x₀ A).role (c₀ A).sync_one s (inr (q, no_queen w h H f (c₀ A) i (stand_of s) (x₀ A) (cells_ok A) (way_ok A n) stage q))))
         (calmly A (c₀ A) (stand_of s) (still 2) (plays 4 (x₀ A)) k)
 
     taken : place_number s.place ≡ 27 → within h H (word_of b g SyncOne) ≡ true → Keeps b p (did b.cells (captured (m A) (aims s (word_of b g SyncOne))))
@@ -246,7 +246,7 @@ module _ {b : BoxState} {G : Ghost} {p : ℕ} (A : Acts b G p (seat_at b p).heig
       let q : place_number s.place ≡ 19 = ap place_number e in
       let l : place_number s.place ≤ 32 = omega arith in
       let past : place_number s.place ≢ 2 = λ d. omega arith in
-      let x = shows_closing w h H f (c₀ A) i (here A) (stand_of s) (x₀ A) (cells_ok A) (way_ok A (n l past)) (stage l past) q in
+      let x = shows_closing w h H f (c₀ A) i (stand_of s) (x₀ A) (cells_ok A) (way_ok A (n l past)) (stage l past) q in
       let small = (climber-facts w s (A.related.sound.law p A.inside) (state l past)).0 in
       let v = word_of b g (Apply (m A).way) in
       let number : v / 4 ≡ s.passage.0 = x.0 in
@@ -274,7 +274,7 @@ module _ {b : BoxState} {G : Ghost} {p : ℕ} (A : Acts b G p (seat_at b p).heig
       let q : place_number s.place ≡ 32 = ap place_number e in
       let l : place_number s.place ≤ 32 = omega arith in
       let past : place_number s.place ≢ 2 = λ d. omega arith in
-      let x = shows_withdrawing w h H f (c₀ A) i (here A) (stand_of s) (x₀ A) (cells_ok A) (way_ok A (n l past)) (stage l past) q in
+      let x = shows_withdrawing w h H f (c₀ A) i (stand_of s) (x₀ A) (cells_ok A) (way_ok A (n l past)) (stage l past) q in
       let v = word_of b g (Apply (m A).way) in
       let number : v / 4 ≡ s.passage.0 = x.0 in
       let two : v % 4 ≡ 2 = x.1 in
