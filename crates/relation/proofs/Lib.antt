@@ -17,3 +17,5 @@ pub mod Polls
 pub mod Writings
 pub mod Standing
 pub mod ClimbSteps
+pub mod AbortSteps
+pub mod CloseSteps
