@@ -1,0 +1,118 @@
+-- The steps of a seat that frees a gate keep the relation. Assumes nothing.
+use Rattle.std.proofs.Common.{◌≡◌, ℕ, ◌+◌, ◌-◌, ◌*◌, ◌/◌, ◌%◌, ◌^◌, ◌<◌, ◌≤◌, Bool, true, false, cond, eqb, ◌≢◌, ◌⊎◌, List, Ok, sym, refl, ap, ◌∙◌, subst, inl, inr, arith}
+use native.Mathlib.Decide.{ℕ_discrete}
+use Rattle.std.proofs.lemmas.Bool.{cond_both, eq-eqb, ne_eqb}
+use Rattle.std.proofs.lemmas.Bool.Decides.{nat_tests}
+use Rattle.layout.specs.Gates.{heights_of, gate_of, way_of}
+use Rattle.seats.specs.declared.seat.Seat.{Seat}
+use Rattle.seats.specs.declared.place.Place.{Place}
+use Rattle.seats.specs.declared.place.Place.TheVariants.{ReadSyncTwo, ClearSyncTwo, StrikeOut, StrikeSelf}
+use Rattle.seats.specs.Lawful.{lawful_open}
+use Rattle.seats.specs.Places.{state_number, place_number, within}
+use Rattle.seats.specs.Seats.{goes_to, keeps_for}
+use Rattle.steps.specs.declared.cells.Cell.TheVariants.{Count, SyncOne, SyncTwo, Pawns, Apply, Role}
+use Rattle.steps.specs.Outcomes.{Outcome, did, unfit_at, word, put}
+use Rattle.steps.specs.HelpRelease.{read_sync_two_step, clear_sync_two_step}
+use Rattle.lock.specs.States.{BoxState, seat_at}
+use Rattle.gate.proofs.Phases.{Phase, Stand, Marks, Cells, WayOk, CellsOk}
+use Rattle.gate.proofs.Gates.{Nothing, to}
+use Rattle.gate.proofs.Moves.{read_sync_two, clear_sync_two}
+use Rattle.relation.proofs.Views.{word_of, marks_at, Ghost, stands_at, stand_of, stage_in, low_of, high_of, high_at}
+use Rattle.relation.proofs.Relation.{Late}
+use Rattle.relation.proofs.Frame.{SeatChange}
+use Rattle.relation.proofs.GateWords.{Words, words_of}
+use Rattle.relation.proofs.Acting.{Acts, way_inside, stand-here, occupies_own}
+use Rattle.relation.proofs.Polls.{Next, SyncKept, Known, MoveOf, stand_was, live_standing, after-move}
+use Rattle.relation.proofs.Writings.{m, c₀, x₀, here, cells_ok, way_ok, Writing, writes_nothing, writes-sync-two, calmly}
+use Rattle.relation.proofs.ClimbSteps.{Keeps}
+
+-- a seat that goes from one place past the race for a gate to another
+pub record Walks (w : ℕ) (s t : Seat) : Type 0 where
+  pub law : lawful_open w t ≡ true
+  pub state : t.state ≡ s.state
+  pub height : t.height ≡ s.height
+  pub top : t.top ≡ s.top
+  pub handed : t.handed ≡ s.handed
+  pub passage : t.passage.0 ≡ s.passage.0
+  pub to : 28 ≤ place_number t.place
+  pub begun : place_number t.place ≢ 35
+  pub later : t.handed ≡ true → 48 ≤ place_number t.place
+
+walks_stands : (w : ℕ) (s t : Seat) → Walks w s t → stands_at s ≢ 0 → (stands_at t ≡ t.height) × (low_of t ≡ low_of s)
+walks_stands w s t d n = (grind arith, grind arith)
+
+walks-high : (w r v r' v' : ℕ) (s t : Seat) → Walks w s t → stands_at s ≢ 0 → 28 ≤ place_number s.place → high_of w r v t ≡ high_of w r' v' s
+walks-high w r v r' v' s t d n l = grind (arith, nat_tests)
+
+module _ {b : BoxState} {G : Ghost} {p : ℕ} (A : Acts b G p (seat_at b p).height) where
+  abbrev s : Seat
+  s = seat_at b p
+
+  abbrev h : ℕ
+  h = s.height
+
+  abbrev w : ℕ
+  w = b.ways
+
+  abbrev g : ℕ
+  g = gate_of w p h
+
+  abbrev f : Phase
+  f = G.phase g
+
+  abbrev H : ℕ
+  H = heights_of w
+
+  abbrev i : ℕ
+  i = way_of w p h
+
+  module _ {ws : List ℕ} {x : Words} {c : Cells} {y : Marks} {alter : ℕ → Marks → Marks} (u : Writing A ws x c y alter) where
+    -- a seat that frees, collects or promotes, and goes on standing at the gate
+    pub walk : (t : Seat) (f' : Phase) (E : ℕ → Stand → Marks → Type 0) → SyncKept A x → Known A E → stands_at s ≢ 0 → 28 ≤ place_number s.place → Walks w s t → (place_number t.place ≡ 70 → Late b p t) → MoveOf A f' (stand_of s) (stand_of t) c y E alter → Next b p t ws
+    walk t f' E sync known n l d late k =
+        let q = walks_stands w s t d n in
+        let oc = occupies_own w (word_of b g (Role (record { 0 = i }))) (word_of b g SyncOne) s (A.related.sound.law p A.inside) n in
+        let here : stands_at t ≡ h = q.0 ∙ d.height in
+        let lo = q.1 in
+        let live : state_number s.state ≢ 0 = live_standing s n in
+        after-move A t ws f' (p + 1) x u.store (high_at b p) (stand_of s) (stand_of t) c y E alter (stand_was A n)
+        (stand-here b G p h A t ws f' (p + 1) refl here)
+        (record {
+          law = d.law;
+          handed = λ e. (ap state_number d.state ∙ (A.related.sound.handed p A.inside (sym d.handed ∙ e)).0, d.later e);
+          passage = λ e. (live, d.passage);
+          given = let r = A.related.sound.given p A.inside in let e = d.passage in omega arith;
+          yet = λ k y. (sym (ap state_number d.state) ∙ y.0, inl (let e = d.height in let r = d.to in elim y.1 [ inl z ↦ omega arith | inr z ↦ absurd (omega arith) ]));
+          late = late;
+        }) (inr here) (inr refl)
+        (λ r v e. walks-high w r v _ _ s t d n l)
+        (record {
+          same = λ k l k' ne a₀ a₁. (omega arith, a₁);
+          back = λ k l k' ne a₀ a₁. (omega arith, a₁);
+          own = λ a₀ a₁. refl;
+          own_back = λ e. (let o₃ = oc.3 in omega arith, oc.4);
+        }) u.marks sync known k
+
+  module _ (moves : (state_number s.state ≡ 1) ⊎ (state_number s.state ≡ 3)) where
+    stage : ((stand_of s).stage ≡ 1) ⊎ ((stand_of s).stage ≡ 3)
+    stage = grind arith
+
+    stands : 36 ≤ place_number s.place → stands_at s ≢ 0
+    stands l e = let a = A.low in grind arith
+
+    module _ (e : s.place ≡ ReadSyncTwo) where
+      at₅₉ : place_number s.place ≡ 59
+      at₅₉ = ap place_number e
+
+      pub keeps_read_sync_two : Keeps b p (read_sync_two_step (m A) s b.cells)
+      keeps_read_sync_two =
+          let q = at₅₉ in
+          let n = stands (omega arith) in
+          let v = word b.cells (m A) SyncTwo in
+          cond_both (within 1 w v) _ _ (λ (o : Outcome (Unit {0})). Keeps b p o)
+          (λ _ law ok.
+          walk (writes_nothing A) (goes_to (keeps_for s (v - 1) s.kept_number.0) ClearSyncTwo) f Nothing (λ j l o r. refl) (λ j l o. tt) n (omega arith)
+          (record { law = law; state = refl; height = refl; top = refl; handed = refl; passage = refl; to = omega arith; begun = omega arith; later = λ r. omega arith })
+          (λ r. absurd (omega arith))
+          (calmly A _ _ _ _ (read_sync_two w h H f (c₀ A) i (here A) (stand_of s) (x₀ A) (cells_ok A) (way_ok A n) stage at₅₉)))
+          (λ _ law ok. let z : ◌≡◌ {A = ℕ} 0 1 = cc in absurd (omega arith))
