@@ -1,5 +1,5 @@
 -- The steps of a seat that frees a gate keep the relation. Assumes nothing.
-use Rattle.std.proofs.Common.{◌≡◌, ℕ, ◌+◌, ◌-◌, ◌*◌, ◌/◌, ◌%◌, ◌^◌, ◌<◌, ◌≤◌, Bool, true, false, cond, eqb, ◌≢◌, ◌⊎◌, List, Ok, sym, refl, ap, ◌∙◌, subst, inl, inr, arith}
+use Rattle.std.proofs.Common.{◌≡◌, ℕ, zero, suc, ◌+◌, ◌-◌, ◌*◌, ◌/◌, ◌%◌, ◌^◌, ◌<◌, ◌≤◌, Bool, true, false, cond, eqb, ◌≢◌, ◌⊎◌, List, Ok, sym, refl, ap, ◌∙◌, subst, inl, inr, arith}
 use native.Mathlib.Decide.{ℕ_discrete}
 use Rattle.std.proofs.lemmas.Bool.{cond_both, eq-eqb, ne_eqb}
 use Rattle.std.proofs.lemmas.Bool.Decides.{nat_tests}
@@ -13,10 +13,14 @@ use Rattle.seats.specs.Seats.{goes_to, keeps_for}
 use Rattle.steps.specs.declared.cells.Cell.TheVariants.{Count, SyncOne, SyncTwo, Pawns, Apply, Role}
 use Rattle.steps.specs.Outcomes.{Outcome, did, unfit_at, word, put}
 use Rattle.steps.specs.HelpRelease.{read_sync_two_step, clear_sync_two_step}
+use Rattle.steps.specs.Codes.{pair}
+use Rattle.steps.specs.Pawns.{lane, with_lane, remove_word}
 use Rattle.lock.specs.States.{BoxState, seat_at}
 use Rattle.gate.proofs.Phases.{Phase, Stand, Marks, Cells, WayOk, CellsOk}
-use Rattle.gate.proofs.Gates.{Nothing, to}
+use Rattle.gate.proofs.Gates.{Nothing, to, lists}
+use Rattle.gate.proofs.Turns.{struck}
 use Rattle.gate.proofs.Moves.{read_sync_two, clear_sync_two}
+use Rattle.relation.proofs.PawnLaws.{lane-same, lane-other, with_fits}
 use Rattle.relation.proofs.Views.{word_of, marks_at, Ghost, stands_at, stand_of, stage_in, low_of, high_of, high_at}
 use Rattle.relation.proofs.Relation.{Late}
 use Rattle.relation.proofs.Frame.{SeatChange}
@@ -25,6 +29,43 @@ use Rattle.relation.proofs.Acting.{Acts, way_inside, stand-here, occupies_own}
 use Rattle.relation.proofs.Polls.{Next, SyncKept, Known, MoveOf, stand_was, live_standing, after-move}
 use Rattle.relation.proofs.Writings.{m, c₀, x₀, here, cells_ok, way_ok, Writing, writes_nothing, writes-sync-two, calmly}
 use Rattle.relation.proofs.ClimbSteps.{Keeps}
+
+-- the pairs of a pawn word: all fit, those of 0 are 0, and one way struck out leaves the others
+lane-fits : (n i : ℕ) → n < 2 ^ 64 → lane n i < 65536
+lane-fits n zero l = omega arith
+lane-fits n (suc zero) l = omega arith
+lane-fits n (suc (suc zero)) l = omega arith
+lane-fits n (suc (suc (suc zero))) l = omega arith
+lane-fits n (suc (suc (suc (suc i)))) l = omega arith
+
+lane_zero : (i : ℕ) → lane 0 i ≡ 0
+lane_zero zero = refl
+lane_zero (suc zero) = refl
+lane_zero (suc (suc zero)) = refl
+lane_zero (suc (suc (suc zero))) = refl
+lane_zero (suc (suc (suc (suc i)))) = refl
+
+lists-same : (a a' n n' : ℕ) (y : Marks) → a ≡ a' → n ≡ n' → lists a n y ≡ lists a' n' y
+lists-same a a' n n' y e d = λ z. lists (e z) (d z) y
+
+module _ (n k : ℕ) (l : n < 2 ^ 64) (e : k < 4) where
+  struck_pair : lane n k / 4 * 4 + 3 < 65536
+  struck_pair = let f = lane-fits n k l in omega arith
+
+  pub remove_fits : remove_word n k < 2 ^ 64
+  remove_fits = with_fits n k (pair (lane n k / 4) 3) l e (let f = struck_pair in omega arith)
+
+  pub remove_marks : (j : ℕ) (y : Marks) → y.listed ≡ lane n j % 4 → y.listing ≡ lane n j / 4 → lists (lane (remove_word n k) j % 4) (lane (remove_word n k) j / 4) y ≡ struck k j y
+  remove_marks j y a d =
+      elim (ℕ_discrete j k) [
+        | yes q ↦
+            let r : lane (remove_word n k) j ≡ 4 * (lane n k / 4) + 3 = ap (λ a. lane (remove_word n k) a) q ∙ lane-same n k _ e (let f = struck_pair in omega arith) in
+            let o : lane n j ≡ lane n k = ap (λ a. lane n a) q in
+            lists-same _ 3 _ y.listing y (rw r (omega arith)) (rw r (rw d (rw o (omega arith)))) ∙ sym (ap (λ (t : Bool). cond t (lists 3 y.listing y) y) (eq-eqb j k q))
+        | no q ↦
+            let r : lane (remove_word n k) j ≡ lane n j = lane-other n k j _ e (let f = struck_pair in omega arith) q in
+            lists-same _ y.listed _ y.listing y (ap (λ a. a % 4) r ∙ sym a) (ap (λ a. a / 4) r ∙ sym d) ∙ sym (ap (λ (t : Bool). cond t (lists 3 y.listing y) y) (ne_eqb j k q))
+      ]
 
 -- a seat that goes from one place past the race for a gate to another
 pub record Walks (w : ℕ) (s t : Seat) : Type 0 where
@@ -116,3 +157,16 @@ module _ {b : BoxState} {G : Ghost} {p : ℕ} (A : Acts b G p (seat_at b p).heig
           (λ r. absurd (omega arith))
           (calmly A _ _ _ _ (read_sync_two w h H f (c₀ A) i (here A) (stand_of s) (x₀ A) (cells_ok A) (way_ok A n) stage at₅₉)))
           (λ _ law ok. let z : ◌≡◌ {A = ℕ} 0 1 = cc in absurd (omega arith))
+
+    module _ (e : s.place ≡ ClearSyncTwo) where
+      at₆₀ : place_number s.place ≡ 60
+      at₆₀ = ap place_number e
+
+      pub keeps_clear_sync_two : Keeps b p (clear_sync_two_step (m A) s b.cells)
+      keeps_clear_sync_two law ok =
+          let q = at₆₀ in
+          let n = stands (omega arith) in
+          walk (writes-sync-two A (writes_nothing A) 0) (goes_to s StrikeOut) f Nothing (λ j l o r. refl) (λ j l o. tt) n (omega arith)
+          (record { law = law; state = refl; height = refl; top = refl; handed = refl; passage = refl; to = omega arith; begun = omega arith; later = λ r. omega arith })
+          (λ r. absurd (omega arith))
+          (calmly A _ _ _ _ (clear_sync_two w h H f (c₀ A) i (here A) (stand_of s) (x₀ A) (cells_ok A) (way_ok A n) stage at₆₀))
