@@ -6,28 +6,29 @@ use Rattle.std.proofs.lemmas.Bool.Decides.{nat_tests}
 use Rattle.layout.specs.Gates.{heights_of, gate_of, way_of}
 use Rattle.seats.specs.declared.seat.Seat.{Seat}
 use Rattle.seats.specs.declared.place.Place.{Place}
-use Rattle.seats.specs.declared.place.Place.TheVariants.{ReadSyncTwo, ClearSyncTwo, StrikeOut, StrikeSelf}
+use Rattle.seats.specs.declared.place.Place.TheVariants.{ReadSyncTwo, ClearSyncTwo, StrikeOut, StrikeSelf, PromotePawn, ResetPawns, OpenGate}
 use Rattle.seats.specs.Lawful.{lawful_open}
 use Rattle.seats.specs.Places.{state_number, place_number, within}
 use Rattle.seats.specs.Seats.{goes_to, keeps_for}
 use Rattle.steps.specs.declared.cells.Cell.TheVariants.{Count, SyncOne, SyncTwo, Pawns, Apply, Role}
-use Rattle.steps.specs.Outcomes.{Outcome, did, unfit_at, word, put}
-use Rattle.steps.specs.HelpRelease.{read_sync_two_step, clear_sync_two_step}
+use Rattle.steps.specs.Outcomes.{Outcome, did, unfit_at, word, put, closes}
+use Rattle.steps.specs.HelpRelease.{read_sync_two_step, clear_sync_two_step, strike_out_step}
+use Rattle.steps.specs.Promote.{strike_self_step, reset_pawns_step, open_gate_step}
 use Rattle.steps.specs.Codes.{pair}
 use Rattle.steps.specs.Pawns.{lane, with_lane, remove_word}
 use Rattle.lock.specs.States.{BoxState, seat_at}
 use Rattle.gate.proofs.Phases.{Phase, Stand, Marks, Cells, WayOk, CellsOk}
-use Rattle.gate.proofs.Gates.{Nothing, to, lists}
-use Rattle.gate.proofs.Turns.{struck}
+use Rattle.gate.proofs.Gates.{Nothing, to, lists, closing}
+use Rattle.gate.proofs.Turns.{struck, strike_out, strike_self, reset_pawns, open_gate}
 use Rattle.gate.proofs.Moves.{read_sync_two, clear_sync_two}
 use Rattle.relation.proofs.PawnLaws.{lane-same, lane-other, with_fits}
 use Rattle.relation.proofs.Views.{word_of, marks_at, Ghost, stands_at, stand_of, stage_in, low_of, high_of, high_at}
 use Rattle.relation.proofs.Relation.{Late}
 use Rattle.relation.proofs.Frame.{SeatChange}
-use Rattle.relation.proofs.GateWords.{Words, words_of}
+use Rattle.relation.proofs.GateWords.{Words, words_of, marks_in}
 use Rattle.relation.proofs.Acting.{Acts, way_inside, stand-here, occupies_own}
 use Rattle.relation.proofs.Polls.{Next, SyncKept, Known, MoveOf, stand_was, live_standing, after-move}
-use Rattle.relation.proofs.Writings.{m, c₀, x₀, here, cells_ok, way_ok, Writing, writes_nothing, writes-sync-two, calmly}
+use Rattle.relation.proofs.Writings.{m, c₀, x₀, here, cells_ok, way_ok, Writing, writes_nothing, writes-count, writes-sync-two, writes-pawns, writes_as, at-gate, calmly}
 use Rattle.relation.proofs.ClimbSteps.{Keeps}
 
 -- the pairs of a pawn word: all fit, those of 0 are 0, and one way struck out leaves the others
@@ -84,6 +85,19 @@ walks_stands w s t d n = (grind arith, grind arith)
 
 walks-high : (w r v r' v' : ℕ) (s t : Seat) → Walks w s t → stands_at s ≢ 0 → 28 ≤ place_number s.place → high_of w r v t ≡ high_of w r' v' s
 walks-high w r v r' v' s t d n l = grind (arith, nat_tests)
+
+kept-facts : (w : ℕ) (s : Seat) → lawful_open w s ≡ true → state_number s.state ≢ 0 → (s.kept_way.0 < w) × (s.kept_number.0 ≤ 16383)
+kept-facts w s l n = (grind (arith, nat_tests), grind (arith, nat_tests))
+
+closes-place : (s : Seat) → (state_number s.state ≡ 1) ⊎ (state_number s.state ≡ 3) → place_number (closes s) ≡ closing (stand_of s)
+closes-place s e = grind (arith, nat_tests)
+
+closes-range : (s : Seat) → (state_number s.state ≡ 1) ⊎ (state_number s.state ≡ 3) → (28 ≤ place_number (closes s)) × (place_number (closes s) ≤ 48) × (place_number (closes s) ≢ 35) × (state_number s.state ≡ 3 → 48 ≤ place_number (closes s))
+closes-range s e = (grind arith, grind arith, grind arith, grind arith)
+
+-- the gate is still taken by king and queen
+count_open : (w h H : ℕ) (f : Phase) (c : Cells) (i : ℕ) (v : Stand) (x : Marks) → CellsOk w h H f c → WayOk h H f c i v x → ((v.stage ≡ 1) ⊎ (v.stage ≡ 3)) → v.place ≡ 68 → c.count ≡ 2
+count_open w h H f c i v x co wo k0 k1 = grind arith
 
 module _ {b : BoxState} {G : Ghost} {p : ℕ} (A : Acts b G p (seat_at b p).height) where
   abbrev s : Seat
@@ -170,3 +184,28 @@ module _ {b : BoxState} {G : Ghost} {p : ℕ} (A : Acts b G p (seat_at b p).heig
           (record { law = law; state = refl; height = refl; top = refl; handed = refl; passage = refl; to = omega arith; begun = omega arith; later = λ r. omega arith })
           (λ r. absurd (omega arith))
           (calmly A _ _ _ _ (clear_sync_two w h H f (c₀ A) i (here A) (stand_of s) (x₀ A) (cells_ok A) (way_ok A n) stage at₆₀))
+
+    kept : (s.kept_way.0 < w) × (s.kept_number.0 ≤ 16383)
+    kept = kept-facts w s (A.related.sound.law p A.inside) (λ e. omega arith)
+
+    pawn_word : ℕ
+    pawn_word = word b.cells (m A) Pawns
+
+    module _ (e : s.place ≡ StrikeOut) where
+      at₆₁ : place_number s.place ≡ 61
+      at₆₁ = ap place_number e
+
+      pub keeps_strike_out : Keeps b p (strike_out_step (m A) s b.cells)
+      keeps_strike_out law ok =
+          let q = at₆₁ in
+          let n = stands (omega arith) in
+          let k = s.kept_way.0 in
+          let l : k < 4 = let r = kept.0 in let z = A.related.sound.sized.most in omega arith in
+          let v = words_of b.cells (m A) in
+          let fits = (at-gate A).pawns in
+          let turn = strike_out w h H f (c₀ A) i (stand_of s) (x₀ A) (here A) (cells_ok A) (way_ok A n) stage at₆₁ in
+          walk (writes_as A (writes-pawns A (writes_nothing A) (remove_word v.pawns k) (remove_fits v.pawns k fits l)) (struck k i (x₀ A)) (λ j y. struck k j y)
+          (remove_marks v.pawns k fits l i (x₀ A) refl refl) (λ j jl ne. remove_marks v.pawns k fits l j (marks_in v j) refl refl))
+          (goes_to s StrikeSelf) turn.0 Nothing (λ j l o r. refl) (λ j l o. tt) n (omega arith)
+          (record { law = law; state = refl; height = refl; top = refl; handed = refl; passage = refl; to = omega arith; begun = omega arith; later = λ r. omega arith })
+          (λ r. absurd (omega arith)) turn.1
