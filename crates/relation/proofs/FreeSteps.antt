@@ -18,7 +18,7 @@ use Rattle.steps.specs.Codes.{pair}
 use Rattle.steps.specs.Pawns.{lane, with_lane, remove_word}
 use Rattle.lock.specs.States.{BoxState, seat_at}
 use Rattle.gate.proofs.Phases.{Phase, Stand, Marks, Cells, WayOk, CellsOk}
-use Rattle.gate.proofs.Gates.{Nothing, to, lists, closing}
+use Rattle.gate.proofs.Gates.{Nothing, to, lists, counts, closing}
 use Rattle.gate.proofs.Turns.{struck, strike_out, strike_self, reset_pawns, open_gate}
 use Rattle.gate.proofs.Moves.{read_sync_two, clear_sync_two}
 use Rattle.relation.proofs.PawnLaws.{lane-same, lane-other, with_fits}
@@ -209,3 +209,61 @@ module _ {b : BoxState} {G : Ghost} {p : ℕ} (A : Acts b G p (seat_at b p).heig
           (goes_to s StrikeSelf) turn.0 Nothing (λ j l o r. refl) (λ j l o. tt) n (omega arith)
           (record { law = law; state = refl; height = refl; top = refl; handed = refl; passage = refl; to = omega arith; begun = omega arith; later = λ r. omega arith })
           (λ r. absurd (omega arith)) turn.1
+
+    module _ (e : s.place ≡ StrikeSelf) where
+      at₆₄ : place_number s.place ≡ 64
+      at₆₄ = ap place_number e
+
+      pub keeps_strike_self : Keeps b p (strike_self_step (m A) s b.cells)
+      keeps_strike_self law ok =
+          let q = at₆₄ in
+          let n = stands (omega arith) in
+          let il = way_inside b G p h A in
+          let l : i < 4 = let z = A.related.sound.sized.most in omega arith in
+          let v = words_of b.cells (m A) in
+          let fits = (at-gate A).pawns in
+          let turn = strike_self w h H f (c₀ A) i (stand_of s) (x₀ A) (here A) (cells_ok A) (way_ok A n) stage at₆₄ in
+          walk (writes_as A (writes-pawns A (writes_nothing A) (remove_word v.pawns i) (remove_fits v.pawns i fits l)) (lists 3 (x₀ A).listing (x₀ A)) (λ j y. y)
+          (remove_marks v.pawns i fits l i (x₀ A) refl refl ∙ ap (λ (t : Bool). cond t (lists 3 (x₀ A).listing (x₀ A)) (x₀ A)) (eq-eqb i i refl))
+          (λ j jl ne. remove_marks v.pawns i fits l j (marks_in v j) refl refl ∙ ap (λ (t : Bool). cond t (lists 3 (marks_in v j).listing (marks_in v j)) (marks_in v j)) (ne_eqb j i ne)))
+          (goes_to s PromotePawn) turn.0 Nothing (λ j l o r. refl) (λ j l o. tt) n (omega arith)
+          (record { law = law; state = refl; height = refl; top = refl; handed = refl; passage = refl; to = omega arith; begun = omega arith; later = λ r. omega arith })
+          (λ r. absurd (omega arith)) turn.1
+
+    module _ (e : s.place ≡ ResetPawns) where
+      at₆₇ : place_number s.place ≡ 67
+      at₆₇ = ap place_number e
+
+      pub keeps_reset_pawns : Keeps b p (reset_pawns_step (m A) s b.cells)
+      keeps_reset_pawns law ok =
+          let q = at₆₇ in
+          let n = stands (omega arith) in
+          let v = words_of b.cells (m A) in
+          let none = λ (j : ℕ) (y : Marks). lists-same (lane 0 j % 4) 0 (lane 0 j / 4) 0 y (ap (λ a. a % 4) (lane_zero j)) (ap (λ a. a / 4) (lane_zero j)) in
+          let turn = reset_pawns w h H f (c₀ A) i (stand_of s) (x₀ A) (here A) (cells_ok A) (way_ok A n) stage at₆₇ in
+          walk (writes_as A (writes-pawns A (writes_nothing A) 0 (omega arith)) (lists 0 0 (x₀ A)) (λ j y. lists 0 0 y) (none i (x₀ A)) (λ j jl ne. none j (marks_in v j)))
+          (goes_to s OpenGate) turn.0 Nothing (λ j l o r. refl) (λ j l o. tt) n (omega arith)
+          (record { law = law; state = refl; height = refl; top = refl; handed = refl; passage = refl; to = omega arith; begun = omega arith; later = λ r. omega arith })
+          (λ r. absurd (omega arith)) turn.1
+
+    closes_walk : lawful_open w (goes_to s (closes s)) ≡ true → Walks w s (goes_to s (closes s))
+    closes_walk law =
+        let r = closes-range s moves in
+        record { law = law; state = refl; height = refl; top = refl; handed = refl; passage = refl; to = r.0; begun = r.2; later = λ d. r.3 (A.related.sound.handed p A.inside d).0 }
+
+    module _ (e : s.place ≡ OpenGate) where
+      at₆₈ : place_number s.place ≡ 68
+      at₆₈ = ap place_number e
+
+      pub keeps_open_gate : Keeps b p (open_gate_step (m A) s b.cells)
+      keeps_open_gate law ok =
+          let q = at₆₈ in
+          let n = stands (omega arith) in
+          let r = closes-range s moves in
+          let two = count_open w h H f (c₀ A) i (stand_of s) (x₀ A) (cells_ok A) (way_ok A n) stage at₆₈ in
+          let turn = open_gate w h H f (c₀ A) i (stand_of s) (x₀ A) (here A) (cells_ok A) (way_ok A n) stage at₆₈ in
+          subst (λ (t : Bool). Next b p (goes_to s (closes s)) (cond t (put b.cells (m A) Count 0) b.cells)) (sym (eq-eqb (word b.cells (m A) Count) 2 two))
+          (walk (writes-count A (writes_nothing A) 0) (goes_to s (closes s)) turn.0 Nothing (λ j l o r. refl) (λ j l o. tt) n (omega arith)
+          (closes_walk law)
+          (λ d. absurd (let k = r.1 in omega arith))
+          (subst (λ (k : ℕ). MoveOf A turn.0 (stand_of s) (to k (stand_of s)) (counts 0 (c₀ A)) (x₀ A) Nothing (λ j y. y)) (sym (closes-place s moves)) turn.1))
