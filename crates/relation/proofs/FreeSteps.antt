@@ -1,25 +1,25 @@
 -- The steps of a seat that frees a gate keep the relation. Assumes nothing.
 use Rattle.std.proofs.Common.{◌≡◌, ℕ, zero, suc, ◌+◌, ◌-◌, ◌*◌, ◌/◌, ◌%◌, ◌^◌, ◌<◌, ◌≤◌, Bool, true, false, cond, eqb, ◌≢◌, ◌⊎◌, List, Ok, sym, refl, ap, ◌∙◌, subst, inl, inr, arith}
 use native.Mathlib.Decide.{ℕ_discrete}
-use Rattle.std.proofs.lemmas.Bool.{cond_both, eq-eqb, ne_eqb}
+use Rattle.std.proofs.lemmas.Bool.{cond_both, eq-eqb, ne_eqb, eqb-true, eqb-false}
 use Rattle.std.proofs.lemmas.Bool.Decides.{nat_tests}
 use Rattle.layout.specs.Gates.{heights_of, gate_of, way_of}
 use Rattle.seats.specs.declared.seat.Seat.{Seat}
 use Rattle.seats.specs.declared.place.Place.{Place}
-use Rattle.seats.specs.declared.place.Place.TheVariants.{ReadSyncTwo, ClearSyncTwo, StrikeOut, StrikeSelf, PromotePawn, ResetPawns, OpenGate}
+use Rattle.seats.specs.declared.place.Place.TheVariants.{ReadSyncTwo, ClearSyncTwo, StrikeOut, StrikeSelf, PromotePawn, ResetPawns, OpenGate, MarkPromoted}
 use Rattle.seats.specs.Lawful.{lawful_open}
 use Rattle.seats.specs.Places.{state_number, place_number, within}
 use Rattle.seats.specs.Seats.{goes_to, keeps_for}
 use Rattle.steps.specs.declared.cells.Cell.TheVariants.{Count, SyncOne, SyncTwo, Pawns, Apply, Role}
 use Rattle.steps.specs.Outcomes.{Outcome, did, unfit_at, word, put, closes}
 use Rattle.steps.specs.HelpRelease.{read_sync_two_step, clear_sync_two_step, strike_out_step}
-use Rattle.steps.specs.Promote.{strike_self_step, reset_pawns_step, open_gate_step}
-use Rattle.steps.specs.Codes.{pair}
+use Rattle.steps.specs.Promote.{strike_self_step, reset_pawns_step, open_gate_step, mark_promoted_step}
+use Rattle.steps.specs.Codes.{pair, reg, pro}
 use Rattle.steps.specs.Pawns.{lane, with_lane, remove_word}
 use Rattle.lock.specs.States.{BoxState, seat_at}
 use Rattle.gate.proofs.Phases.{Phase, Stand, Marks, Cells, WayOk, CellsOk}
-use Rattle.gate.proofs.Gates.{Nothing, to, lists, counts, closing}
-use Rattle.gate.proofs.Turns.{struck, strike_out, strike_self, reset_pawns, open_gate}
+use Rattle.gate.proofs.Gates.{Nothing, to, applies, lists, counts, closing}
+use Rattle.gate.proofs.Turns.{struck, told, strike_out, strike_self, reset_pawns, open_gate, mark_promoted}
 use Rattle.gate.proofs.Moves.{read_sync_two, clear_sync_two}
 use Rattle.relation.proofs.PawnLaws.{lane-same, lane-other, with_fits}
 use Rattle.relation.proofs.Views.{word_of, marks_at, Ghost, stands_at, stand_of, stage_in, low_of, high_of, high_at}
@@ -28,7 +28,7 @@ use Rattle.relation.proofs.Frame.{SeatChange}
 use Rattle.relation.proofs.GateWords.{Words, words_of, marks_in}
 use Rattle.relation.proofs.Acting.{Acts, way_inside, stand-here, occupies_own}
 use Rattle.relation.proofs.Polls.{Next, SyncKept, Known, MoveOf, stand_was, live_standing, after-move}
-use Rattle.relation.proofs.Writings.{m, c₀, x₀, here, cells_ok, way_ok, Writing, writes_nothing, writes-count, writes-sync-two, writes-pawns, writes_as, at-gate, calmly}
+use Rattle.relation.proofs.Writings.{m, c₀, x₀, here, cells_ok, way_ok, Writing, writes_nothing, writes-count, writes-sync-two, writes-pawns, writes-told, writes_as, at-gate, calmly}
 use Rattle.relation.proofs.ClimbSteps.{Keeps}
 
 -- the pairs of a pawn word: all fit, those of 0 are 0, and one way struck out leaves the others
@@ -98,6 +98,28 @@ closes-range s e = (grind arith, grind arith, grind arith, grind arith)
 -- the gate is still taken by king and queen
 count_open : (w h H : ℕ) (f : Phase) (c : Cells) (i : ℕ) (v : Stand) (x : Marks) → CellsOk w h H f c → WayOk h H f c i v x → ((v.stage ≡ 1) ⊎ (v.stage ≡ 3)) → v.place ≡ 68 → c.count ≡ 2
 count_open w h H f c i v x co wo k0 k1 = grind arith
+
+-- who promotes has marked its own application
+marked_own : (h H : ℕ) (f : Phase) (c : Cells) (i : ℕ) (v : Stand) (x : Marks) → WayOk h H f c i v x → ((v.stage ≡ 1) ⊎ (v.stage ≡ 3)) → v.place ≡ 70 → x.applied ≡ 2
+marked_own h H f c i v x wo k0 k1 = grind arith
+
+-- the marks of a way told, where the kept passage still waits at the kept way, and where it does not
+told-hits : (v : Stand) (j : ℕ) (y : Marks) → (j ≡ v.kept_way → (y.applied ≡ 1) × (y.number ≡ v.kept_number)) → cond (eqb j v.kept_way) (applies (pro v.kept_number % 4) (pro v.kept_number / 4) y) y ≡ told v j y
+told-hits v j y f =
+    elim (ℕ_discrete j v.kept_way) [
+      | yes q ↦
+          let a = f q in
+          let c : pro v.kept_number % 4 ≡ 2 = omega arith in
+          let d : pro v.kept_number / 4 ≡ y.number = (let n = a.1 in omega arith) in
+          rw (eq-eqb j v.kept_way q, eq-eqb y.applied 1 a.0, eq-eqb y.number v.kept_number a.1) (λ z. applies (c z) (d z) y)
+      | no q ↦ rw (ne_eqb j v.kept_way q) refl
+    ]
+
+told-misses : (v : Stand) (j : ℕ) (y : Marks) → (j ≡ v.kept_way → y.applied ≡ 1 → y.number ≢ v.kept_number) → y ≡ told v j y
+told-misses v j y f =
+    cond_both (eqb j v.kept_way) _ y (λ (x : Marks). y ≡ x)
+    (λ a. cond_both (eqb y.applied 1) _ y (λ (x : Marks). y ≡ x)
+    (λ d. cond_both (eqb y.number v.kept_number) (applies 2 y.number y) y (λ (x : Marks). y ≡ x) (λ e. absurd (f (eqb-true _ _ a) (eqb-true _ _ d) (eqb-true _ _ e))) (λ e. refl)) (λ d. refl)) (λ a. refl)
 
 module _ {b : BoxState} {G : Ghost} {p : ℕ} (A : Acts b G p (seat_at b p).height) where
   abbrev s : Seat
@@ -267,3 +289,39 @@ module _ {b : BoxState} {G : Ghost} {p : ℕ} (A : Acts b G p (seat_at b p).heig
           (closes_walk law)
           (λ d. absurd (let k = r.1 in omega arith))
           (subst (λ (k : ℕ). MoveOf A turn.0 (stand_of s) (to k (stand_of s)) (counts 0 (c₀ A)) (x₀ A) Nothing (λ j y. y)) (sym (closes-place s moves)) turn.1))
+
+    module _ (e : s.place ≡ MarkPromoted) where
+      at₇₀ : place_number s.place ≡ 70
+      at₇₀ = ap place_number e
+
+      abbrev the_number : ℕ
+      the_number = s.kept_number.0
+
+      tell : {ws : List ℕ} {x : Words} (u : Writing A ws x (c₀ A) (x₀ A) (λ j y. told (stand_of s) j y)) → x.sync_one ≡ word_of b g SyncOne → Keeps b p (did ws (goes_to s (closes s)))
+      tell u sync law ok =
+          let q = at₇₀ in
+          let n = stands (omega arith) in
+          let r = closes-range s moves in
+          walk u (goes_to s (closes s)) f Nothing (λ j l o d. sync) (λ j l o. tt) n (omega arith) (closes_walk law)
+          (λ d. absurd (let k = r.1 in omega arith))
+          (subst (λ (k : ℕ). MoveOf A f (stand_of s) (to k (stand_of s)) (c₀ A) (x₀ A) Nothing (λ j y. told (stand_of s) j y)) (sym (closes-place s moves))
+          (mark_promoted w h H f (c₀ A) i (stand_of s) (x₀ A) (here A) (cells_ok A) (way_ok A n) stage at₇₀))
+
+      pub keeps_mark_promoted : Keeps b p (mark_promoted_step (m A) s b.cells)
+      keeps_mark_promoted =
+          let q = at₇₀ in
+          let n = stands (omega arith) in
+          let k = s.kept_way.0 in
+          let v = words_of b.cells (m A) in
+          let own = marked_own h H f (c₀ A) i (stand_of s) (x₀ A) (way_ok A n) stage at₇₀ in
+          cond_both (eqb (v.apply k) (reg the_number)) _ _ (λ (ws : List ℕ). Keeps b p (did ws (goes_to s (closes s))))
+          (λ hit.
+          let a : v.apply k ≡ 4 * the_number + 1 = eqb-true _ _ hit in
+          let ne : k ≢ i = λ d. let c : v.apply k ≡ v.apply i = ap v.apply d in let o : v.apply i % 4 ≡ 2 = own in omega arith in
+          let fits : pro the_number < 65536 = (let r = kept.1 in omega arith) in
+          tell (writes_as A (writes-told A (writes_nothing A) k (pro the_number) kept.0 ne fits) (x₀ A) (λ j y. told (stand_of s) j y) refl
+          (λ j jl nj. told-hits (stand_of s) j (marks_in v j) (λ d. let c : v.apply j ≡ v.apply k = ap v.apply d in (omega arith, omega arith)))) refl)
+          (λ miss.
+          let a : v.apply k ≢ 4 * the_number + 1 = eqb-false _ _ miss in
+          tell (writes_as A (writes_nothing A) (x₀ A) (λ j y. told (stand_of s) j y) refl
+          (λ j jl nj. told-misses (stand_of s) j (marks_in v j) (λ d o r. let c : v.apply j ≡ v.apply k = ap v.apply d in a (omega arith)))) refl)
