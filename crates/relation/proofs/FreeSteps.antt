@@ -1,7 +1,7 @@
 -- The steps of a seat that frees a gate keep the relation. Assumes nothing.
-use Rattle.std.proofs.Common.{◌≡◌, ℕ, zero, suc, ◌+◌, ◌-◌, ◌*◌, ◌/◌, ◌%◌, ◌^◌, ◌<◌, ◌≤◌, Bool, true, false, cond, eqb, ◌≢◌, ◌⊎◌, List, Ok, sym, refl, ap, ◌∙◌, subst, inl, inr, arith}
+use Rattle.std.proofs.Common.{◌≡◌, ℕ, zero, suc, ◌+◌, ◌-◌, ◌*◌, ◌/◌, ◌%◌, ◌^◌, ◌<◌, ◌≤◌, Bool, true, false, cond, ◌&&◌, eqb, ltb, ◌≢◌, ◌⊎◌, List, Some, None, Ok, Option, sym, refl, ap, ◌∙◌, subst, inl, inr, arith}
 use native.Mathlib.Decide.{ℕ_discrete}
-use Rattle.std.proofs.lemmas.Bool.{cond_both, eq-eqb, ne_eqb, eqb-true, eqb-false}
+use Rattle.std.proofs.lemmas.Bool.{cond_both, eq-eqb, ne_eqb, eqb-true, eqb-false, ltb-true, ltb-false, and_parts}
 use Rattle.std.proofs.lemmas.Bool.Decides.{nat_tests}
 use Rattle.layout.specs.Gates.{heights_of, gate_of, way_of}
 use Rattle.seats.specs.declared.seat.Seat.{Seat}
@@ -13,22 +13,23 @@ use Rattle.seats.specs.Seats.{goes_to, keeps_for}
 use Rattle.steps.specs.declared.cells.Cell.TheVariants.{Count, SyncOne, SyncTwo, Pawns, Apply, Role}
 use Rattle.steps.specs.Outcomes.{Outcome, did, unfit_at, word, put, closes}
 use Rattle.steps.specs.HelpRelease.{read_sync_two_step, clear_sync_two_step, strike_out_step}
-use Rattle.steps.specs.Promote.{strike_self_step, reset_pawns_step, open_gate_step, mark_promoted_step}
-use Rattle.steps.specs.Codes.{pair, reg, pro}
-use Rattle.steps.specs.Pawns.{lane, with_lane, remove_word}
+use Rattle.steps.specs.Promote.{strike_self_step, promotes, promote_pawn_step, reset_pawns_step, open_gate_step, mark_promoted_step}
+use Rattle.steps.specs.Codes.{pair as word_pair, reg, pro}
+use Rattle.steps.specs.Pawns.{lane, with_lane, waits, first_waiting_way, promote_lane, promoted_lane, remove_word}
 use Rattle.lock.specs.States.{BoxState, seat_at}
-use Rattle.gate.proofs.Phases.{Phase, Stand, Marks, Cells, WayOk, CellsOk}
+use Rattle.gate.proofs.Phases.{Phase, idle, solo, pair, clean, free, drain, prom, Stand, Marks, Cells, Plain, WayOk, CellsOk}
 use Rattle.gate.proofs.Gates.{Nothing, to, applies, lists, counts, closing}
-use Rattle.gate.proofs.Turns.{struck, told, strike_out, strike_self, reset_pawns, open_gate, mark_promoted}
+use Rattle.gate.proofs.Turns.{struck, raised, told, promote_nobody, promote_pawn, strike_out, strike_self, reset_pawns, open_gate, mark_promoted}
 use Rattle.gate.proofs.Moves.{read_sync_two, clear_sync_two}
 use Rattle.relation.proofs.PawnLaws.{lane-same, lane-other, with_fits}
-use Rattle.relation.proofs.Views.{word_of, marks_at, Ghost, stands_at, stand_of, stage_in, low_of, high_of, high_at}
-use Rattle.relation.proofs.Relation.{Late}
+use Rattle.relation.proofs.Views.{word_of, marks_at, Ghost, stands_at, stand_of, stand_at, stage_in, low_of, high_of, high_at}
+use Rattle.relation.proofs.Relation.{YetAt, Late}
 use Rattle.relation.proofs.Frame.{SeatChange}
 use Rattle.relation.proofs.GateWords.{Words, words_of, marks_in}
 use Rattle.relation.proofs.Acting.{Acts, way_inside, stand-here, occupies_own}
 use Rattle.relation.proofs.Polls.{Next, SyncKept, Known, MoveOf, stand_was, live_standing, after-move}
 use Rattle.relation.proofs.Writings.{m, c₀, x₀, here, cells_ok, way_ok, Writing, writes_nothing, writes-count, writes-sync-two, writes-pawns, writes-told, writes_as, at-gate, calmly}
+use Rattle.relation.proofs.Standing.{Stander, stander}
 use Rattle.relation.proofs.ClimbSteps.{Keeps}
 
 -- the pairs of a pawn word: all fit, those of 0 are 0, and one way struck out leaves the others
@@ -54,7 +55,7 @@ module _ (n k : ℕ) (l : n < 2 ^ 64) (e : k < 4) where
   struck_pair = let f = lane-fits n k l in omega arith
 
   pub remove_fits : remove_word n k < 2 ^ 64
-  remove_fits = with_fits n k (pair (lane n k / 4) 3) l e (let f = struck_pair in omega arith)
+  remove_fits = with_fits n k (word_pair (lane n k / 4) 3) l e (let f = struck_pair in omega arith)
 
   pub remove_marks : (j : ℕ) (y : Marks) → y.listed ≡ lane n j % 4 → y.listing ≡ lane n j / 4 → lists (lane (remove_word n k) j % 4) (lane (remove_word n k) j / 4) y ≡ struck k j y
   remove_marks j y a d =
@@ -66,6 +67,49 @@ module _ (n k : ℕ) (l : n < 2 ^ 64) (e : k < 4) where
         | no q ↦
             let r : lane (remove_word n k) j ≡ lane n j = lane-other n k j _ e (let f = struck_pair in omega arith) q in
             lists-same _ y.listed _ y.listing y (ap (λ a. a % 4) r ∙ sym a) (ap (λ a. a / 4) r ∙ sym d) ∙ sym (ap (λ (t : Bool). cond t (lists 3 y.listing y) y) (ne_eqb j k q))
+      ]
+
+-- the first way that waits, or none waits
+abbrev First : ℕ → ℕ → Option ℕ → Type 0
+First n w None = (j : ℕ) → j < w → lane n j % 4 ≢ 1
+First n w (Some k) = (k < w) × (lane n k % 4 ≡ 1)
+
+not-waiting : (n w j : ℕ) → waits n w j ≡ false → j < w → lane n j % 4 ≢ 1
+not-waiting n w j e l d = grind (arith, nat_tests)
+
+none_waits : (n w : ℕ) → w ≤ 4 → waits n w 0 ≡ false → waits n w 1 ≡ false → waits n w 2 ≡ false → waits n w 3 ≡ false → (j : ℕ) → j < w → lane n j % 4 ≢ 1
+none_waits n w m a b c d zero l = not-waiting n w 0 a l
+none_waits n w m a b c d (suc zero) l = not-waiting n w 1 b l
+none_waits n w m a b c d (suc (suc zero)) l = not-waiting n w 2 c l
+none_waits n w m a b c d (suc (suc (suc zero))) l = not-waiting n w 3 d l
+none_waits n w m a b c d (suc (suc (suc (suc j)))) l = absurd (omega arith)
+
+first-waits : (n w : ℕ) → w ≤ 4 → First n w (first_waiting_way n w)
+first-waits n w m =
+    let P : Option ℕ → Type 0 = λ o. First n w o in
+    let at : (j : ℕ) → waits n w j ≡ true → First n w (Some j) =
+    λ j e. (let r = and_parts (ltb j w) (eqb (lane n j % 4) 1) e in (ltb-true j w r.0, eqb-true _ _ r.1)) in
+    cond_both (waits n w 0) _ _ P (at 0)
+    (λ a. cond_both (waits n w 1) _ _ P (at 1)
+    (λ b. cond_both (waits n w 2) _ _ P (at 2) (λ c. cond_both (waits n w 3) _ _ P (at 3) (λ d. none_waits n w m a b c d))))
+
+module _ (n k : ℕ) (l : n < 2 ^ 64) (e : k < 4) (one : lane n k % 4 ≡ 1) where
+  raise-small : lane n k + 1 < 65536
+  raise-small = let f = lane-fits n k l in omega arith
+
+  raise_fits : with_lane n k (lane n k + 1) < 2 ^ 64
+  raise_fits = with_fits n k (lane n k + 1) l e raise-small
+
+  raise_marks : (j : ℕ) (y : Marks) → y.listed ≡ lane n j % 4 → y.listing ≡ lane n j / 4 → lists (lane (with_lane n k (lane n k + 1)) j % 4) (lane (with_lane n k (lane n k + 1)) j / 4) y ≡ raised k j y
+  raise_marks j y a d =
+      elim (ℕ_discrete j k) [
+        | yes q ↦
+            let r : lane (with_lane n k (lane n k + 1)) j ≡ lane n k + 1 = ap (λ a. lane (with_lane n k (lane n k + 1)) a) q ∙ lane-same n k _ e raise-small in
+            let o : lane n j ≡ lane n k = ap (λ a. lane n a) q in
+            lists-same _ 2 _ y.listing y (rw r (omega arith)) (rw r (rw d (rw o (omega arith)))) ∙ sym (ap (λ (t : Bool). cond t (lists 2 y.listing y) y) (eq-eqb j k q))
+        | no q ↦
+            let r : lane (with_lane n k (lane n k + 1)) j ≡ lane n j = lane-other n k j _ e raise-small q in
+            lists-same _ y.listed _ y.listing y (ap (λ a. a % 4) r ∙ sym a) (ap (λ a. a / 4) r ∙ sym d) ∙ sym (ap (λ (t : Bool). cond t (lists 2 y.listing y) y) (ne_eqb j k q))
       ]
 
 -- a seat that goes from one place past the race for a gate to another
@@ -102,6 +146,23 @@ count_open w h H f c i v x co wo k0 k1 = grind arith
 -- who promotes has marked its own application
 marked_own : (h H : ℕ) (f : Phase) (c : Cells) (i : ℕ) (v : Stand) (x : Marks) → WayOk h H f c i v x → ((v.stage ≡ 1) ⊎ (v.stage ≡ 3)) → v.place ≡ 70 → x.applied ≡ 2
 marked_own h H f c i v x wo k0 k1 = grind arith
+
+-- at place 65 the own way is struck out, and who is registered waits with that very passage
+struck_own : (h H : ℕ) (f : Phase) (c : Cells) (i : ℕ) (v : Stand) (x : Marks) → WayOk h H f c i v x → ((v.stage ≡ 1) ⊎ (v.stage ≡ 3)) → v.place ≡ 65 → x.listed ≡ 3
+struck_own h H f c i v x wo k0 k1 = grind arith
+
+free_plain : (h H : ℕ) (f : Phase) (c : Cells) (i k : ℕ) (v u : Stand) (x y : Marks) → WayOk h H f c i v x → ((v.stage ≡ 1) ⊎ (v.stage ≡ 3)) → v.place ≡ 65 → WayOk h H f c k u y → k ≢ i → Plain u y
+free_plain h H idle c i k v u x y wo k0 k1 uo ne = absurd (grind arith)
+free_plain h H (solo a) c i k v u x y wo k0 k1 uo ne = absurd (grind arith)
+free_plain h H (pair a q) c i k v u x y wo k0 k1 uo ne = absurd (grind arith)
+free_plain h H (clean r a) c i k v u x y wo k0 k1 uo ne = absurd (grind arith)
+free_plain h H (free r) c i k v u x y wo k0 k1 uo ne =
+    elim (ℕ_discrete i r) [ yes e ↦ uo.1 (λ d. ne (d ∙ sym e)) | no e ↦ absurd (let z = wo.1 e in grind arith) ]
+free_plain h H (drain r) c i k v u x y wo k0 k1 uo ne = absurd (grind arith)
+free_plain h H (prom a) c i k v u x y wo k0 k1 uo ne = absurd (grind arith)
+
+registered_waits : (u : Stand) (y : Marks) → Plain u y → y.listed ≡ 1 → (u.stage ≡ 1) × (5 ≤ u.place) × (y.listing ≡ u.passage)
+registered_waits u y uo e = (grind arith, grind arith, grind arith)
 
 -- the marks of a way told, where the kept passage still waits at the kept way, and where it does not
 told-hits : (v : Stand) (j : ℕ) (y : Marks) → (j ≡ v.kept_way → (y.applied ≡ 1) × (y.number ≡ v.kept_number)) → cond (eqb j v.kept_way) (applies (pro v.kept_number % 4) (pro v.kept_number / 4) y) y ≡ told v j y
@@ -210,7 +271,7 @@ module _ {b : BoxState} {G : Ghost} {p : ℕ} (A : Acts b G p (seat_at b p).heig
     kept : (s.kept_way.0 < w) × (s.kept_number.0 ≤ 16383)
     kept = kept-facts w s (A.related.sound.law p A.inside) (λ e. omega arith)
 
-    pawn_word : ℕ
+    abbrev pawn_word : ℕ
     pawn_word = word b.cells (m A) Pawns
 
     module _ (e : s.place ≡ StrikeOut) where
@@ -325,3 +386,61 @@ module _ {b : BoxState} {G : Ghost} {p : ℕ} (A : Acts b G p (seat_at b p).heig
           let a : v.apply k ≢ 4 * the_number + 1 = eqb-false _ _ miss in
           tell (writes_as A (writes_nothing A) (x₀ A) (λ j y. told (stand_of s) j y) refl
           (λ j jl nj. told-misses (stand_of s) j (marks_in v j) (λ d o r. let c : v.apply j ≡ v.apply k = ap v.apply d in a (omega arith)))) refl)
+
+    module _ (e : s.place ≡ PromotePawn) where
+      at₆₅ : place_number s.place ≡ 65
+      at₆₅ = ap place_number e
+
+      -- the seat that waits at a way k is the only one with its passage
+      late : (k : ℕ) → k < w → k ≢ i → lane pawn_word k % 4 ≡ 1 → Late b p (goes_to (keeps_for s k (lane pawn_word k / 4)) MarkPromoted)
+      late k l ne one =
+          let q = at₆₅ in
+          let n = stands (omega arith) in
+          let u = stand_at b G h g k in
+          let plain = free_plain h H f (c₀ A) i k (stand_of s) u (x₀ A) (marks_at b g k) (way_ok A n) stage at₆₅ ((at-gate A).gate.ways k l) ne in
+          let there = registered_waits u (marks_at b g k) plain one in
+          let who = stander b G A.related p h A.inside A.low A.high k l (λ z. let r = there.1 in omega arith) in
+          let r = who.0 in
+          let t = seat_at b r in
+          let shows : u ≡ stand_of t = who.1.shows in
+          let passage : t.passage.0 ≡ lane pawn_word k / 4 = sym (ap (λ v. v.passage) shows) ∙ sym there.2 in
+          let past : 5 ≤ place_number t.place = subst (λ (v : Stand). 5 ≤ v.place) shows there.1 in
+          record {
+            given = let c = A.related.sound.given r who.1.inside in omega arith;
+            apart = λ x xl yet ge we pe.
+                let same = A.related.sound.apart x r xl who.1.inside (λ z. let y = yet.0 in omega arith) (live_standing t who.1.stands) (pe ∙ sym passage) in
+                let d : YetAt t h = subst (λ (y : ℕ). YetAt (seat_at b y) h) same yet in
+                let high = who.1.height in
+                elim d.1 [ inl a ↦ omega arith | inr a ↦ omega arith ];
+          }
+
+      promote : (o : Option ℕ) → First pawn_word w o → Keeps b p (did (put b.cells (m A) Pawns (promote_lane pawn_word o)) (promotes (promoted_lane pawn_word o) s))
+      promote None none law ok =
+          let q = at₆₅ in
+          let n = stands (omega arith) in
+          let v = words_of b.cells (m A) in
+          let turn = promote_nobody w h H f (c₀ A) i (stand_of s) (x₀ A) (here A) (cells_ok A) (way_ok A n) stage at₆₅ in
+          walk (writes_as A (writes-pawns A (writes_nothing A) v.pawns (at-gate A).pawns) (x₀ A) (λ j y. y) refl (λ j jl ne. refl))
+          (goes_to s ResetPawns) turn.0 (λ j u y. y.listed ≢ 1) (λ j l o r. refl) (λ j l o. none j l) n (omega arith)
+          (record { law = law; state = refl; height = refl; top = refl; handed = refl; passage = refl; to = omega arith; begun = omega arith; later = λ r. omega arith })
+          (λ r. absurd (omega arith)) turn.1
+      promote (Some k) one law ok =
+          let q = at₆₅ in
+          let n = stands (omega arith) in
+          let v = words_of b.cells (m A) in
+          let fits = (at-gate A).pawns in
+          let l : k < 4 = let r = one.0 in let z = A.related.sound.sized.most in omega arith in
+          let ne : k ≢ i = λ d.
+          (let own : lane pawn_word i % 4 ≡ 3 = struck_own h H f (c₀ A) i (stand_of s) (x₀ A) (way_ok A n) stage at₆₅ in
+          let waits : lane pawn_word i % 4 ≡ 1 = subst (λ (j : ℕ). lane pawn_word j % 4 ≡ 1) d one.1 in omega arith) in
+          let turn = promote_pawn w h H f (c₀ A) i (stand_of s) (x₀ A) k (lane pawn_word k / 4) (here A) (cells_ok A) (way_ok A n) stage at₆₅ ne one.0 in
+          walk (writes_as A (writes-pawns A (writes_nothing A) (with_lane v.pawns k (lane v.pawns k + 1)) (raise_fits v.pawns k fits l one.1)) (x₀ A) (λ j y. raised k j y)
+          (raise_marks v.pawns k fits l one.1 i (x₀ A) refl refl ∙ ap (λ (t : Bool). cond t (lists 2 (x₀ A).listing (x₀ A)) (x₀ A)) (ne_eqb i k (λ d. ne (sym d))))
+          (λ j jl nj. raise_marks v.pawns k fits l one.1 j (marks_in v j) refl refl))
+          (goes_to (keeps_for s k (lane pawn_word k / 4)) MarkPromoted) turn.0 (λ j u y. j ≡ k → y.listed ≡ 1) (λ j l o r. refl)
+          (λ j jl o d. subst (λ (j : ℕ). lane pawn_word j % 4 ≡ 1) (sym d) one.1) n (omega arith)
+          (record { law = law; state = refl; height = refl; top = refl; handed = refl; passage = refl; to = omega arith; begun = omega arith; later = λ r. omega arith })
+          (λ r. late k one.0 ne one.1) turn.1
+
+      pub keeps_promote_pawn : Keeps b p (promote_pawn_step (m A) s b.cells)
+      keeps_promote_pawn = promote (first_waiting_way pawn_word w) (first-waits pawn_word w A.related.sound.sized.most)
