@@ -1,27 +1,28 @@
 -- The steps of a seat that frees a gate keep the relation. Assumes nothing.
-use Rattle.std.proofs.Common.{◌≡◌, ℕ, zero, suc, ◌+◌, ◌-◌, ◌*◌, ◌/◌, ◌%◌, ◌^◌, ◌<◌, ◌≤◌, Bool, true, false, cond, ◌&&◌, eqb, ltb, ◌≢◌, ◌⊎◌, List, Some, None, Ok, Option, sym, refl, ap, ◌∙◌, subst, inl, inr, arith}
+use Rattle.std.proofs.Common.{◌≡◌, ℕ, zero, suc, ◌+◌, ◌-◌, ◌*◌, ◌/◌, ◌%◌, ◌^◌, ◌<◌, ◌≤◌, Bool, true, false, cond, ◌&&◌, eqb, ltb, ◌≢◌, ◌⊎◌, List, get_or, set, Some, None, Ok, Option, sym, refl, ap, ◌∙◌, subst, inl, inr, arith}
 use native.Mathlib.Decide.{ℕ_discrete}
 use Rattle.std.proofs.lemmas.Bool.{cond_both, eq-eqb, ne_eqb, eqb-true, eqb-false, ltb-true, ltb-false, and_parts}
 use Rattle.std.proofs.lemmas.Bool.Decides.{nat_tests}
 use Rattle.layout.specs.Gates.{heights_of, gate_of, way_of}
 use Rattle.seats.specs.declared.seat.Seat.{Seat}
 use Rattle.seats.specs.declared.place.Place.{Place}
-use Rattle.seats.specs.declared.place.Place.TheVariants.{ReadSyncTwo, ClearSyncTwo, StrikeOut, StrikeSelf, PromotePawn, ResetPawns, OpenGate, MarkPromoted}
+use Rattle.seats.specs.declared.place.Place.TheVariants.{ReadSyncTwo, ClearSyncTwo, StrikeOut, StrikeSelf, PromotePawn, ResetPawns, OpenGate, MarkPromoted, ScanApply, CollectPawns, RaceToClose}
 use Rattle.seats.specs.Lawful.{lawful_open}
 use Rattle.seats.specs.Places.{state_number, place_number, within}
-use Rattle.seats.specs.Seats.{goes_to, keeps_for}
+use Rattle.seats.specs.Seats.{goes_to, keeps_for, scans, notes}
 use Rattle.steps.specs.declared.cells.Cell.TheVariants.{Count, SyncOne, SyncTwo, Pawns, Apply, Role}
 use Rattle.steps.specs.Outcomes.{Outcome, did, unfit_at, word, put, closes}
+use Rattle.steps.specs.Collect.{waiting, scan_apply_step, collect_pawns_step}
 use Rattle.steps.specs.HelpRelease.{read_sync_two_step, clear_sync_two_step, strike_out_step}
 use Rattle.steps.specs.Promote.{strike_self_step, promotes, promote_pawn_step, reset_pawns_step, open_gate_step, mark_promoted_step}
 use Rattle.steps.specs.Codes.{pair as word_pair, reg, pro}
-use Rattle.steps.specs.Pawns.{lane, with_lane, waits, first_waiting_way, promote_lane, promoted_lane, remove_word}
+use Rattle.steps.specs.Pawns.{lane, with_lane, waits, first_waiting_way, promote_lane, promoted_lane, remove_word, collect_lane, collect_at, collect_word, Notable}
 use Rattle.lock.specs.States.{BoxState, seat_at}
 use Rattle.gate.proofs.Phases.{Phase, idle, solo, pair, clean, free, drain, prom, Stand, Marks, Cells, Plain, WayOk, CellsOk}
 use Rattle.gate.proofs.Gates.{Nothing, to, applies, lists, counts, closing}
-use Rattle.gate.proofs.Turns.{struck, raised, told, promote_nobody, promote_pawn, strike_out, strike_self, reset_pawns, open_gate, mark_promoted}
+use Rattle.gate.proofs.Turns.{struck, raised, told, promote_nobody, promote_pawn, collected, collect_pawns, scan_apply, strike_out, strike_self, reset_pawns, open_gate, mark_promoted}
 use Rattle.gate.proofs.Moves.{read_sync_two, clear_sync_two}
-use Rattle.relation.proofs.PawnLaws.{lane-same, lane-other, with_fits}
+use Rattle.relation.proofs.PawnLaws.{lane-same, lane-other, with_fits, lanes-collect, collect_fits}
 use Rattle.relation.proofs.Views.{word_of, marks_at, Ghost, stands_at, stand_of, stand_at, stage_in, low_of, high_of, high_at}
 use Rattle.relation.proofs.Relation.{YetAt, Late}
 use Rattle.relation.proofs.Frame.{SeatChange}
@@ -112,6 +113,43 @@ module _ (n k : ℕ) (l : n < 2 ^ 64) (e : k < 4) (one : lane n k % 4 ≡ 1) whe
             lists-same _ y.listed _ y.listing y (ap (λ a. a % 4) r ∙ sym a) (ap (λ a. a / 4) r ∙ sym d) ∙ sym (ap (λ (t : Bool). cond t (lists 2 y.listing y) y) (ne_eqb j k q))
       ]
 
+-- the word after a collect, way by way
+collected_at : (n w : ℕ) (ns : List ℕ) (j : ℕ) → j < w → collect_at n w ns j ≡ collect_lane (lane n j) (get_or ns j 0)
+collected_at n w ns j l =
+    cond_both (ltb j w) (collect_lane (lane n j) (get_or ns j 0)) (lane n j) (λ (a : ℕ). a ≡ collect_lane (lane n j) (get_or ns j 0)) (λ e. refl) (λ e. absurd (let d = ltb-false j w e in omega arith))
+
+collected-lane : (n w : ℕ) (ns : List ℕ) → n < 2 ^ 64 → Notable ns → w ≤ 4 → (j : ℕ) → j < w → lane (collect_word n w ns) j ≡ collect_lane (lane n j) (get_or ns j 0)
+collected-lane n w ns f o m zero l = ap (λ xs. get_or xs 0 0) (lanes-collect n w ns f o) ∙ collected_at n w ns 0 l
+collected-lane n w ns f o m (suc zero) l = ap (λ xs. get_or xs 1 0) (lanes-collect n w ns f o) ∙ collected_at n w ns 1 l
+collected-lane n w ns f o m (suc (suc zero)) l = ap (λ xs. get_or xs 2 0) (lanes-collect n w ns f o) ∙ collected_at n w ns 2 l
+collected-lane n w ns f o m (suc (suc (suc zero))) l = ap (λ xs. get_or xs 3 0) (lanes-collect n w ns f o) ∙ collected_at n w ns 3 l
+collected-lane n w ns f o m (suc (suc (suc (suc j)))) l = absurd (omega arith)
+
+pair-stays : (x n : ℕ) → (n ≡ 0) ⊎ (x % 4 ≡ 3) → collect_lane x n ≡ x
+pair-stays x n e = grind (arith, nat_tests)
+
+pair-new : (x n : ℕ) → n ≢ 0 → x % 4 ≢ 3 → collect_lane x n ≡ 4 * n + 1
+pair-new x n e d = grind (arith, nat_tests)
+
+collected-pair : (x n l : ℕ) (y : Marks) → y.listed ≡ x % 4 → y.listing ≡ x / 4 → l ≡ collect_lane x n → lists (l % 4) (l / 4) y ≡ collected n y
+collected-pair x n l y a d e =
+    elim (ℕ_discrete n 0) [
+      | yes q ↦
+          let r : l ≡ x = e ∙ pair-stays x n (inl q) in
+          rw (eq-eqb n 0 q) (lists-same _ y.listed _ y.listing y (ap (λ a. a % 4) r ∙ sym a) (ap (λ a. a / 4) r ∙ sym d))
+      | no q ↦ elim (ℕ_discrete y.listed 3) [
+        | yes k ↦
+            let r : l ≡ x = e ∙ pair-stays x n (inr (sym a ∙ k)) in
+            rw (ne_eqb n 0 q, eq-eqb y.listed 3 k) (lists-same _ y.listed _ y.listing y (ap (λ a. a % 4) r ∙ sym a) (ap (λ a. a / 4) r ∙ sym d))
+        | no k ↦
+            let r : l ≡ 4 * n + 1 = e ∙ pair-new x n q (λ z. k (a ∙ z)) in
+            rw (ne_eqb n 0 q, ne_eqb y.listed 3 k) (lists-same _ 1 _ n y (omega arith) (omega arith))
+      ]
+    ]
+
+collect_marks : (n w : ℕ) (ns : List ℕ) → n < 2 ^ 64 → Notable ns → w ≤ 4 → (j : ℕ) (y : Marks) → j < w → y.listed ≡ lane n j % 4 → y.listing ≡ lane n j / 4 → lists (lane (collect_word n w ns) j % 4) (lane (collect_word n w ns) j / 4) y ≡ collected (get_or ns j 0) y
+collect_marks n w ns f o m j y l a d = collected-pair (lane n j) (get_or ns j 0) (lane (collect_word n w ns) j) y a d (collected-lane n w ns f o m j l)
+
 -- a seat that goes from one place past the race for a gate to another
 pub record Walks (w : ℕ) (s t : Seat) : Type 0 where
   pub law : lawful_open w t ≡ true
@@ -132,6 +170,9 @@ walks-high w r v r' v' s t d n l = grind (arith, nat_tests)
 
 kept-facts : (w : ℕ) (s : Seat) → lawful_open w s ≡ true → state_number s.state ≢ 0 → (s.kept_way.0 < w) × (s.kept_number.0 ≤ 16383)
 kept-facts w s l n = (grind (arith, nat_tests), grind (arith, nat_tests))
+
+notes_fit : (w : ℕ) (s : Seat) → lawful_open w s ≡ true → state_number s.state ≢ 0 → Notable s.noted
+notes_fit w s l n = record { first = grind (arith, nat_tests); second = grind (arith, nat_tests); third = grind (arith, nat_tests); fourth = grind (arith, nat_tests) }
 
 closes-place : (s : Seat) → (state_number s.state ≡ 1) ⊎ (state_number s.state ≡ 3) → place_number (closes s) ≡ closing (stand_of s)
 closes-place s e = grind (arith, nat_tests)
@@ -444,3 +485,22 @@ module _ {b : BoxState} {G : Ghost} {p : ℕ} (A : Acts b G p (seat_at b p).heig
 
       pub keeps_promote_pawn : Keeps b p (promote_pawn_step (m A) s b.cells)
       keeps_promote_pawn = promote (first_waiting_way pawn_word w) (first-waits pawn_word w A.related.sound.sized.most)
+
+    module _ (e : s.place ≡ CollectPawns) where
+      at₅₅ : place_number s.place ≡ 55
+      at₅₅ = ap place_number e
+
+      pub keeps_collect_pawns : Keeps b p (collect_pawns_step (m A) s b.cells)
+      keeps_collect_pawns law ok =
+          let q = at₅₅ in
+          let n = stands (omega arith) in
+          let v = words_of b.cells (m A) in
+          let fits = (at-gate A).pawns in
+          let z = A.related.sound.sized.most in
+          let ns : Notable s.noted = notes_fit w s (A.related.sound.law p A.inside) (λ e. omega arith) in
+          let turn = collect_pawns w h H f (c₀ A) i (stand_of s) (x₀ A) (here A) (cells_ok A) (way_ok A n) stage at₅₅ in
+          walk (writes_as A (writes-pawns A (writes_nothing A) (collect_word v.pawns w s.noted) (collect_fits v.pawns w s.noted fits ns)) (collected (get_or s.noted i 0) (x₀ A)) (λ j y. collected (get_or s.noted j 0) y)
+          (collect_marks v.pawns w s.noted fits ns z i (x₀ A) (way_inside b G p h A) refl refl) (λ j jl ne. collect_marks v.pawns w s.noted fits ns z j (marks_in v j) jl refl refl))
+          (goes_to s RaceToClose) turn.0 Nothing (λ j l o r. refl) (λ j l o. tt) n (omega arith)
+          (record { law = law; state = refl; height = refl; top = refl; handed = refl; passage = refl; to = omega arith; begun = omega arith; later = λ r. omega arith })
+          (λ r. absurd (omega arith)) turn.1
