@@ -1,7 +1,8 @@
 -- The steps of a seat that frees a gate keep the relation. Assumes nothing.
-use Rattle.std.proofs.Common.{◌≡◌, ℕ, zero, suc, ◌+◌, ◌-◌, ◌*◌, ◌/◌, ◌%◌, ◌^◌, ◌<◌, ◌≤◌, Bool, true, false, cond, ◌&&◌, eqb, ltb, ◌≢◌, ◌⊎◌, List, get_or, set, Some, None, Ok, Option, sym, refl, ap, ◌∙◌, subst, inl, inr, arith}
+use Rattle.std.proofs.Common.{◌≡◌, ℕ, zero, suc, ◌+◌, ◌-◌, ◌*◌, ◌/◌, ◌%◌, ◌^◌, ◌<◌, ◌≤◌, Bool, true, false, cond, ◌&&◌, eqb, ltb, ◌≢◌, ◌⊎◌, List, length, get_or, set, Some, None, Ok, Option, sym, refl, ap, ◌∙◌, subst, inl, inr, arith}
 use native.Mathlib.Decide.{ℕ_discrete}
-use Rattle.std.proofs.lemmas.Bool.{cond_both, eq-eqb, ne_eqb, eqb-true, eqb-false, ltb-true, ltb-false, and_parts}
+use Rattle.std.proofs.lemmas.List.{get_or-set_same, get_or-set_other, set_past, get_or_past}
+use Rattle.std.proofs.lemmas.Bool.{cond_both, eq-eqb, ne_eqb, eqb-true, eqb-false, ltb-true, ltb-false, and_parts, cases_lt}
 use Rattle.std.proofs.lemmas.Bool.Decides.{nat_tests}
 use Rattle.layout.specs.Gates.{heights_of, gate_of, way_of}
 use Rattle.seats.specs.declared.seat.Seat.{Seat}
@@ -19,7 +20,7 @@ use Rattle.steps.specs.Codes.{pair as word_pair, reg, pro}
 use Rattle.steps.specs.Pawns.{lane, with_lane, waits, first_waiting_way, promote_lane, promoted_lane, remove_word, collect_lane, collect_at, collect_word, Notable}
 use Rattle.lock.specs.States.{BoxState, seat_at}
 use Rattle.gate.proofs.Phases.{Phase, idle, solo, pair, clean, free, drain, prom, Stand, Marks, Cells, Plain, WayOk, CellsOk}
-use Rattle.gate.proofs.Gates.{Nothing, to, applies, lists, counts, closing}
+use Rattle.gate.proofs.Gates.{Nothing, to, applies, lists, counts, scanning, closing}
 use Rattle.gate.proofs.Turns.{struck, raised, told, promote_nobody, promote_pawn, collected, collect_pawns, scan_apply, strike_out, strike_self, reset_pawns, open_gate, mark_promoted}
 use Rattle.gate.proofs.Moves.{read_sync_two, clear_sync_two}
 use Rattle.relation.proofs.PawnLaws.{lane-same, lane-other, with_fits, lanes-collect, collect_fits}
@@ -173,6 +174,17 @@ kept-facts w s l n = (grind (arith, nat_tests), grind (arith, nat_tests))
 
 notes_fit : (w : ℕ) (s : Seat) → lawful_open w s ≡ true → state_number s.state ≢ 0 → Notable s.noted
 notes_fit w s l n = record { first = grind (arith, nat_tests); second = grind (arith, nat_tests); third = grind (arith, nat_tests); fourth = grind (arith, nat_tests) }
+
+-- what is noted of a way that waits, and of another word
+noted_waiting : (a : ℕ) → a < 65536 → (waiting a ≡ 0) ⊎ ((a % 4 ≡ 1) × (a / 4 ≡ waiting a))
+noted_waiting a l = grind (arith, nat_tests)
+
+noted-own : (xs : List ℕ) (k n : ℕ) → (get_or (set xs k n) k 0 ≡ 0) ⊎ (get_or (set xs k n) k 0 ≡ n)
+noted-own xs k n =
+    elim (cases_lt k (length xs)) [
+      | inl l ↦ inr (get_or-set_same xs k n 0 l)
+      | inr l ↦ inl (ap (λ ys. get_or ys k 0) (set_past xs k n l) ∙ get_or_past xs k 0 l)
+    ]
 
 closes-place : (s : Seat) → (state_number s.state ≡ 1) ⊎ (state_number s.state ≡ 3) → place_number (closes s) ≡ closing (stand_of s)
 closes-place s e = grind (arith, nat_tests)
@@ -504,3 +516,50 @@ module _ {b : BoxState} {G : Ghost} {p : ℕ} (A : Acts b G p (seat_at b p).heig
           (goes_to s RaceToClose) turn.0 Nothing (λ j l o r. refl) (λ j l o. tt) n (omega arith)
           (record { law = law; state = refl; height = refl; top = refl; handed = refl; passage = refl; to = omega arith; begun = omega arith; later = λ r. omega arith })
           (λ r. absurd (omega arith)) turn.1
+
+    module _ (e : s.place ≡ ScanApply) where
+      at₅₂ : place_number s.place ≡ 52
+      at₅₂ = ap place_number e
+
+      abbrev reading : ℕ
+      reading = waiting (word b.cells (m A) (Apply s.scan))
+
+      abbrev now : List ℕ
+      now = set s.noted s.scan.0 reading
+
+      abbrev Reads : ℕ → Stand → Marks → Type 0
+      Reads j u y = (j ≡ s.scan.0 → (get_or now j 0 ≡ 0) ⊎ ((y.applied ≡ 1) × (y.number ≡ get_or now j 0))) × (j ≢ s.scan.0 → get_or now j 0 ≡ get_or s.noted j 0)
+
+      reads : Known A Reads
+      reads j l o =
+          let v = words_of b.cells (m A) in (
+            λ d.
+            (let c : get_or now j 0 ≡ get_or now s.scan.0 0 = ap (λ k. get_or now k 0) d in
+            let a : waiting (v.apply j) ≡ reading = ap (λ k. waiting (v.apply k)) d in
+            elim (noted-own s.noted s.scan.0 reading) [
+              | inl z ↦ inl (c ∙ z)
+              | inr z ↦ elim (noted_waiting (v.apply j) ((at-gate A).applies j l)) [
+                | inl y ↦ inl (c ∙ (z ∙ (sym a ∙ y)))
+                | inr y ↦ inr (y.0, y.1 ∙ (a ∙ sym (c ∙ z)))
+              ]
+            ]),
+            λ d. get_or-set_other s.noted s.scan.0 j reading 0 d,
+          )
+
+      scan : (t : Seat) (c d : ℕ) → ((c ≡ 52) × (d ≡ s.scan.0 + 1)) ⊎ ((c ≡ 55) × (s.scan.0 + 1 ≡ w)) → Walks w s t → place_number t.place ≡ c → stand_of t ≡ to c (scanning d (λ j. get_or now j 0) (stand_of s)) → Next b p t b.cells
+      scan t c d k law o r =
+          let q = at₅₂ in
+          let n = stands (omega arith) in
+          let turn = scan_apply w h H f (c₀ A) i (stand_of s) (x₀ A) c d (λ j. get_or now j 0) (here A) (cells_ok A) (way_ok A n) stage at₅₂ k in
+          walk (writes_nothing A) t turn.0 Reads (λ j l o r. refl) reads n (omega arith) law
+          (λ r. absurd (elim k [ inl z ↦ omega arith | inr z ↦ omega arith ]))
+          (subst (λ (v : Stand). MoveOf A turn.0 (stand_of s) v (c₀ A) (x₀ A) Reads (λ j y. y)) (sym r) turn.1)
+
+      pub keeps_scan_apply : Keeps b p (scan_apply_step (m A) s b.cells)
+      keeps_scan_apply =
+          let q = at₅₂ in
+          cond_both (eqb (s.scan.0 + 1) w) _ _ (λ (o : Outcome (Unit {0})). Keeps b p o)
+          (λ last law ok. scan (goes_to (scans (notes s now) 0) CollectPawns) 55 0 (inr (refl, eqb-true _ _ last))
+          (record { law = law; state = refl; height = refl; top = refl; handed = refl; passage = refl; to = omega arith; begun = omega arith; later = λ r. omega arith }) refl refl)
+          (λ more law ok. scan (scans (notes s now) (s.scan.0 + 1)) 52 (s.scan.0 + 1) (inl (refl, refl))
+          (record { law = law; state = refl; height = refl; top = refl; handed = refl; passage = refl; to = omega arith; begun = omega arith; later = λ r. omega arith }) at₅₂ (ap (λ k. to k (scanning (s.scan.0 + 1) (λ j. get_or now j 0) (stand_of s))) at₅₂))
