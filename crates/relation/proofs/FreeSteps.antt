@@ -1,5 +1,12 @@
--- The steps of a seat that frees a gate keep the relation. Assumes nothing.
-use Rattle.std.proofs.Common.{◌≡◌, ℕ, zero, suc, ◌+◌, ◌-◌, ◌*◌, ◌/◌, ◌%◌, ◌^◌, ◌<◌, ◌≤◌, Bool, true, false, cond, ◌&&◌, eqb, ltb, ◌≢◌, ◌⊎◌, List, length, get_or, set, Some, None, Ok, Option, sym, refl, ap, ◌∙◌, subst, inl, inr, arith}
+-- The steps of a seat that collects, frees a gate, and promotes keep the relation. Assumes nothing.
+--     Walks, walk             a seat past the race for a gate goes to another place of it
+--     remove_fits, remove_marks, raise_fits, raise_marks, collect_marks
+--                             the pawn word with a way struck out, with one promoted, and after a collect
+--     closes_walk             a seat that is done with the gate goes on to withdraw its application
+--     keeps_scan_apply        place 52; keeps_collect_pawns 55
+--     keeps_read_sync_two     59; keeps_clear_sync_two 60; keeps_strike_out 61
+--     keeps_strike_self       64; keeps_promote_pawn 65; keeps_reset_pawns 67; keeps_open_gate 68; keeps_mark_promoted 70
+use Rattle.std.proofs.Common.{◌≡◌, ℕ, zero, suc, ◌+◌, ◌-◌, ◌*◌, ◌/◌, ◌%◌, ◌^◌, ◌<◌, ◌≤◌, Bool, true, false, cond, eqb, ltb, ◌≢◌, ◌⊎◌, List, length, get_or, set, Some, None, Option, sym, refl, ap, ◌∙◌, subst, inl, inr, arith}
 use native.Mathlib.Decide.{ℕ_discrete}
 use Rattle.std.proofs.lemmas.List.{get_or-set_same, get_or-set_other, set_past, get_or_past}
 use Rattle.std.proofs.lemmas.Bool.{cond_both, eq-eqb, ne_eqb, eqb-true, eqb-false, ltb-true, ltb-false, and_parts, cases_lt}
@@ -12,7 +19,7 @@ use Rattle.seats.specs.Lawful.{lawful_open}
 use Rattle.seats.specs.Places.{state_number, place_number, within}
 use Rattle.seats.specs.Seats.{goes_to, keeps_for, scans, notes}
 use Rattle.steps.specs.declared.cells.Cell.TheVariants.{Count, SyncOne, SyncTwo, Pawns, Apply, Role}
-use Rattle.steps.specs.Outcomes.{Outcome, did, unfit_at, word, put, closes}
+use Rattle.steps.specs.Outcomes.{Outcome, did, word, put, closes}
 use Rattle.steps.specs.Collect.{waiting, scan_apply_step, collect_pawns_step}
 use Rattle.steps.specs.HelpRelease.{read_sync_two_step, clear_sync_two_step, strike_out_step}
 use Rattle.steps.specs.Promote.{strike_self_step, promotes, promote_pawn_step, reset_pawns_step, open_gate_step, mark_promoted_step}
@@ -23,25 +30,17 @@ use Rattle.gate.proofs.Phases.{Phase, idle, solo, pair, clean, free, drain, prom
 use Rattle.gate.proofs.Gates.{Nothing, to, applies, lists, counts, scanning, closing}
 use Rattle.gate.proofs.Turns.{struck, raised, told, promote_nobody, promote_pawn, collected, collect_pawns, scan_apply, strike_out, strike_self, reset_pawns, open_gate, mark_promoted}
 use Rattle.gate.proofs.Moves.{read_sync_two, clear_sync_two}
-use Rattle.relation.proofs.PawnLaws.{lane-same, lane-other, with_fits, lanes-collect, collect_fits}
-use Rattle.relation.proofs.Views.{word_of, marks_at, Ghost, stands_at, stand_of, stand_at, stage_in, low_of, high_of, high_at}
+use Rattle.relation.proofs.PawnLaws.{lane-fits, lane-same, lane-other, with_fits, lanes-collect, collect_fits}
+use Rattle.relation.proofs.Views.{word_of, marks_at, Ghost, stands_at, stand_of, stand_at, low_of, high_of, high_at}
 use Rattle.relation.proofs.Relation.{YetAt, Late}
-use Rattle.relation.proofs.Frame.{SeatChange}
 use Rattle.relation.proofs.GateWords.{Words, words_of, marks_in}
 use Rattle.relation.proofs.Acting.{Acts, way_inside, stand-here, occupies_own}
 use Rattle.relation.proofs.Polls.{Next, SyncKept, Known, MoveOf, stand_was, live_standing, after-move}
 use Rattle.relation.proofs.Writings.{m, c₀, x₀, here, cells_ok, way_ok, Writing, writes_nothing, writes-count, writes-sync-two, writes-pawns, writes-told, writes_as, at-gate, calmly}
-use Rattle.relation.proofs.Standing.{Stander, stander}
+use Rattle.relation.proofs.Standing.{stander}
 use Rattle.relation.proofs.ClimbSteps.{Keeps}
 
--- the pairs of a pawn word: all fit, those of 0 are 0, and one way struck out leaves the others
-lane-fits : (n i : ℕ) → n < 2 ^ 64 → lane n i < 65536
-lane-fits n zero l = omega arith
-lane-fits n (suc zero) l = omega arith
-lane-fits n (suc (suc zero)) l = omega arith
-lane-fits n (suc (suc (suc zero))) l = omega arith
-lane-fits n (suc (suc (suc (suc i)))) l = omega arith
-
+-- the pairs of a pawn word: those of 0 are 0, and one way struck out or promoted leaves the others
 lane_zero : (i : ℕ) → lane 0 i ≡ 0
 lane_zero zero = refl
 lane_zero (suc zero) = refl
@@ -291,6 +290,10 @@ module _ {b : BoxState} {G : Ghost} {p : ℕ} (A : Acts b G p (seat_at b p).heig
     stands : 36 ≤ place_number s.place → stands_at s ≢ 0
     stands l e = let a = A.low in grind arith
 
+    on : (P : Place) → 48 ≤ place_number P → lawful_open w (goes_to s P) ≡ true → Walks w s (goes_to s P)
+    on P l law =
+        record { law = law; state = refl; height = refl; top = refl; handed = refl; passage = refl; to = omega arith; begun = omega arith; later = λ r. l }
+
     module _ (e : s.place ≡ ReadSyncTwo) where
       at₅₉ : place_number s.place ≡ 59
       at₅₉ = ap place_number e
@@ -317,7 +320,7 @@ module _ {b : BoxState} {G : Ghost} {p : ℕ} (A : Acts b G p (seat_at b p).heig
           let q = at₆₀ in
           let n = stands (omega arith) in
           walk (writes-sync-two A (writes_nothing A) 0) (goes_to s StrikeOut) f Nothing (λ j l o r. refl) (λ j l o. tt) n (omega arith)
-          (record { law = law; state = refl; height = refl; top = refl; handed = refl; passage = refl; to = omega arith; begun = omega arith; later = λ r. omega arith })
+          (on StrikeOut (omega arith) law)
           (λ r. absurd (omega arith))
           (calmly A _ _ _ _ (clear_sync_two w h H f (c₀ A) i (here A) (stand_of s) (x₀ A) (cells_ok A) (way_ok A n) stage at₆₀))
 
@@ -343,7 +346,7 @@ module _ {b : BoxState} {G : Ghost} {p : ℕ} (A : Acts b G p (seat_at b p).heig
           walk (writes_as A (writes-pawns A (writes_nothing A) (remove_word v.pawns k) (remove_fits v.pawns k fits l)) (struck k i (x₀ A)) (λ j y. struck k j y)
           (remove_marks v.pawns k fits l i (x₀ A) refl refl) (λ j jl ne. remove_marks v.pawns k fits l j (marks_in v j) refl refl))
           (goes_to s StrikeSelf) turn.0 Nothing (λ j l o r. refl) (λ j l o. tt) n (omega arith)
-          (record { law = law; state = refl; height = refl; top = refl; handed = refl; passage = refl; to = omega arith; begun = omega arith; later = λ r. omega arith })
+          (on StrikeSelf (omega arith) law)
           (λ r. absurd (omega arith)) turn.1
 
     module _ (e : s.place ≡ StrikeSelf) where
@@ -363,7 +366,7 @@ module _ {b : BoxState} {G : Ghost} {p : ℕ} (A : Acts b G p (seat_at b p).heig
           (remove_marks v.pawns i fits l i (x₀ A) refl refl ∙ ap (λ (t : Bool). cond t (lists 3 (x₀ A).listing (x₀ A)) (x₀ A)) (eq-eqb i i refl))
           (λ j jl ne. remove_marks v.pawns i fits l j (marks_in v j) refl refl ∙ ap (λ (t : Bool). cond t (lists 3 (marks_in v j).listing (marks_in v j)) (marks_in v j)) (ne_eqb j i ne)))
           (goes_to s PromotePawn) turn.0 Nothing (λ j l o r. refl) (λ j l o. tt) n (omega arith)
-          (record { law = law; state = refl; height = refl; top = refl; handed = refl; passage = refl; to = omega arith; begun = omega arith; later = λ r. omega arith })
+          (on PromotePawn (omega arith) law)
           (λ r. absurd (omega arith)) turn.1
 
     module _ (e : s.place ≡ ResetPawns) where
@@ -379,7 +382,7 @@ module _ {b : BoxState} {G : Ghost} {p : ℕ} (A : Acts b G p (seat_at b p).heig
           let turn = reset_pawns w h H f (c₀ A) i (stand_of s) (x₀ A) (here A) (cells_ok A) (way_ok A n) stage at₆₇ in
           walk (writes_as A (writes-pawns A (writes_nothing A) 0 (omega arith)) (lists 0 0 (x₀ A)) (λ j y. lists 0 0 y) (none i (x₀ A)) (λ j jl ne. none j (marks_in v j)))
           (goes_to s OpenGate) turn.0 Nothing (λ j l o r. refl) (λ j l o. tt) n (omega arith)
-          (record { law = law; state = refl; height = refl; top = refl; handed = refl; passage = refl; to = omega arith; begun = omega arith; later = λ r. omega arith })
+          (on OpenGate (omega arith) law)
           (λ r. absurd (omega arith)) turn.1
 
     closes_walk : lawful_open w (goes_to s (closes s)) ≡ true → Walks w s (goes_to s (closes s))
@@ -475,7 +478,7 @@ module _ {b : BoxState} {G : Ghost} {p : ℕ} (A : Acts b G p (seat_at b p).heig
           let turn = promote_nobody w h H f (c₀ A) i (stand_of s) (x₀ A) (here A) (cells_ok A) (way_ok A n) stage at₆₅ in
           walk (writes_as A (writes-pawns A (writes_nothing A) v.pawns (at-gate A).pawns) (x₀ A) (λ j y. y) refl (λ j jl ne. refl))
           (goes_to s ResetPawns) turn.0 (λ j u y. y.listed ≢ 1) (λ j l o r. refl) (λ j l o. none j l) n (omega arith)
-          (record { law = law; state = refl; height = refl; top = refl; handed = refl; passage = refl; to = omega arith; begun = omega arith; later = λ r. omega arith })
+          (on ResetPawns (omega arith) law)
           (λ r. absurd (omega arith)) turn.1
       promote (Some k) one law ok =
           let q = at₆₅ in
@@ -514,7 +517,7 @@ module _ {b : BoxState} {G : Ghost} {p : ℕ} (A : Acts b G p (seat_at b p).heig
           walk (writes_as A (writes-pawns A (writes_nothing A) (collect_word v.pawns w s.noted) (collect_fits v.pawns w s.noted fits ns)) (collected (get_or s.noted i 0) (x₀ A)) (λ j y. collected (get_or s.noted j 0) y)
           (collect_marks v.pawns w s.noted fits ns z i (x₀ A) (way_inside b G p h A) refl refl) (λ j jl ne. collect_marks v.pawns w s.noted fits ns z j (marks_in v j) jl refl refl))
           (goes_to s RaceToClose) turn.0 Nothing (λ j l o r. refl) (λ j l o. tt) n (omega arith)
-          (record { law = law; state = refl; height = refl; top = refl; handed = refl; passage = refl; to = omega arith; begun = omega arith; later = λ r. omega arith })
+          (on RaceToClose (omega arith) law)
           (λ r. absurd (omega arith)) turn.1
 
     module _ (e : s.place ≡ ScanApply) where
@@ -534,15 +537,15 @@ module _ {b : BoxState} {G : Ghost} {p : ℕ} (A : Acts b G p (seat_at b p).heig
       reads j l o =
           let v = words_of b.cells (m A) in (
             λ d.
-            (let c : get_or now j 0 ≡ get_or now s.scan.0 0 = ap (λ k. get_or now k 0) d in
-            let a : waiting (v.apply j) ≡ reading = ap (λ k. waiting (v.apply k)) d in
-            elim (noted-own s.noted s.scan.0 reading) [
-              | inl z ↦ inl (c ∙ z)
-              | inr z ↦ elim (noted_waiting (v.apply j) ((at-gate A).applies j l)) [
-                | inl y ↦ inl (c ∙ (z ∙ (sym a ∙ y)))
-                | inr y ↦ inr (y.0, y.1 ∙ (a ∙ sym (c ∙ z)))
-              ]
-            ]),
+                (let c : get_or now j 0 ≡ get_or now s.scan.0 0 = ap (λ k. get_or now k 0) d in
+                let a : waiting (v.apply j) ≡ reading = ap (λ k. waiting (v.apply k)) d in
+                elim (noted-own s.noted s.scan.0 reading) [
+                  | inl z ↦ inl (c ∙ z)
+                  | inr z ↦ elim (noted_waiting (v.apply j) ((at-gate A).applies j l)) [
+                    | inl y ↦ inl (c ∙ (z ∙ (sym a ∙ y)))
+                    | inr y ↦ inr (y.0, y.1 ∙ (a ∙ sym (c ∙ z)))
+                  ]
+                ]),
             λ d. get_or-set_other s.noted s.scan.0 j reading 0 d,
           )
 
