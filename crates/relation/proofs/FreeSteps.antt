@@ -1,7 +1,8 @@
 -- The steps of a seat that collects, frees a gate, and promotes keep the relation. Assumes nothing.
 --     Walks, walk             a seat past the race for a gate goes to another place of it
---     remove_fits, remove_marks, raise_fits, raise_marks, collect_marks
---                             the pawn word with a way struck out, with one promoted, and after a collect
+--     relisted                the pawn word with another state for one way
+--     remove_marks, raise_marks, collect_marks   what a strike-out, a promotion and a collect make of the marks
+--     late                    the number that a promoter keeps is that of nobody who has yet to enter the way
 --     closes_walk             a seat that is done with the gate goes on to withdraw its application
 --     keeps_scan_apply        place 52; keeps_collect_pawns 55
 --     keeps_read_sync_two     59; keeps_clear_sync_two 60; keeps_strike_out 61
@@ -51,24 +52,28 @@ lane_zero (suc (suc (suc (suc i)))) = refl
 lists-same : (a a' n n' : ℕ) (y : Marks) → a ≡ a' → n ≡ n' → lists a n y ≡ lists a' n' y
 lists-same a a' n n' y e d = λ z. lists (e z) (d z) y
 
+-- another state for the pair of way k
+relisted : (n k x a : ℕ) → k < 4 → x < 65536 → x % 4 ≡ a → x / 4 ≡ lane n k / 4 → (j : ℕ) (y : Marks) → y.listed ≡ lane n j % 4 → y.listing ≡ lane n j / 4 → lists (lane (with_lane n k x) j % 4) (lane (with_lane n k x) j / 4) y ≡ cond (eqb j k) (lists a y.listing y) y
+relisted n k x a e f state number j y c d =
+    elim (ℕ_discrete j k) [
+      | yes q ↦
+          let r : lane (with_lane n k x) j ≡ x = ap (λ z. lane (with_lane n k x) z) q ∙ lane-same n k x e f in
+          let o : lane n j / 4 ≡ lane n k / 4 = ap (λ z. lane n z / 4) q in
+          rw (eq-eqb j k q) (lists-same _ a _ y.listing y (ap (λ z. z % 4) r ∙ state) (ap (λ z. z / 4) r ∙ (number ∙ sym (d ∙ o))))
+      | no q ↦
+          let r : lane (with_lane n k x) j ≡ lane n j = lane-other n k j x e f q in
+          rw (ne_eqb j k q) (lists-same _ y.listed _ y.listing y (ap (λ z. z % 4) r ∙ sym c) (ap (λ z. z / 4) r ∙ sym d))
+    ]
+
 module _ (n k : ℕ) (l : n < 2 ^ 64) (e : k < 4) where
-  struck_pair : lane n k / 4 * 4 + 3 < 65536
-  struck_pair = let f = lane-fits n k l in omega arith
+  struck-small : 4 * (lane n k / 4) + 3 < 65536
+  struck-small = let f = lane-fits n k l in omega arith
 
-  pub remove_fits : remove_word n k < 2 ^ 64
-  remove_fits = with_fits n k (word_pair (lane n k / 4) 3) l e (let f = struck_pair in omega arith)
+  remove_fits : remove_word n k < 2 ^ 64
+  remove_fits = with_fits n k (word_pair (lane n k / 4) 3) l e struck-small
 
-  pub remove_marks : (j : ℕ) (y : Marks) → y.listed ≡ lane n j % 4 → y.listing ≡ lane n j / 4 → lists (lane (remove_word n k) j % 4) (lane (remove_word n k) j / 4) y ≡ struck k j y
-  remove_marks j y a d =
-      elim (ℕ_discrete j k) [
-        | yes q ↦
-            let r : lane (remove_word n k) j ≡ 4 * (lane n k / 4) + 3 = ap (λ a. lane (remove_word n k) a) q ∙ lane-same n k _ e (let f = struck_pair in omega arith) in
-            let o : lane n j ≡ lane n k = ap (λ a. lane n a) q in
-            lists-same _ 3 _ y.listing y (rw r (omega arith)) (rw r (rw d (rw o (omega arith)))) ∙ sym (ap (λ (t : Bool). cond t (lists 3 y.listing y) y) (eq-eqb j k q))
-        | no q ↦
-            let r : lane (remove_word n k) j ≡ lane n j = lane-other n k j _ e (let f = struck_pair in omega arith) q in
-            lists-same _ y.listed _ y.listing y (ap (λ a. a % 4) r ∙ sym a) (ap (λ a. a / 4) r ∙ sym d) ∙ sym (ap (λ (t : Bool). cond t (lists 3 y.listing y) y) (ne_eqb j k q))
-      ]
+  remove_marks : (j : ℕ) (y : Marks) → y.listed ≡ lane n j % 4 → y.listing ≡ lane n j / 4 → lists (lane (remove_word n k) j % 4) (lane (remove_word n k) j / 4) y ≡ struck k j y
+  remove_marks = relisted n k (word_pair (lane n k / 4) 3) 3 e struck-small (omega arith) (omega arith)
 
 -- the first way that waits, or none waits
 abbrev First : ℕ → ℕ → Option ℕ → Type 0
@@ -102,16 +107,7 @@ module _ (n k : ℕ) (l : n < 2 ^ 64) (e : k < 4) (one : lane n k % 4 ≡ 1) whe
   raise_fits = with_fits n k (lane n k + 1) l e raise-small
 
   raise_marks : (j : ℕ) (y : Marks) → y.listed ≡ lane n j % 4 → y.listing ≡ lane n j / 4 → lists (lane (with_lane n k (lane n k + 1)) j % 4) (lane (with_lane n k (lane n k + 1)) j / 4) y ≡ raised k j y
-  raise_marks j y a d =
-      elim (ℕ_discrete j k) [
-        | yes q ↦
-            let r : lane (with_lane n k (lane n k + 1)) j ≡ lane n k + 1 = ap (λ a. lane (with_lane n k (lane n k + 1)) a) q ∙ lane-same n k _ e raise-small in
-            let o : lane n j ≡ lane n k = ap (λ a. lane n a) q in
-            lists-same _ 2 _ y.listing y (rw r (omega arith)) (rw r (rw d (rw o (omega arith)))) ∙ sym (ap (λ (t : Bool). cond t (lists 2 y.listing y) y) (eq-eqb j k q))
-        | no q ↦
-            let r : lane (with_lane n k (lane n k + 1)) j ≡ lane n j = lane-other n k j _ e raise-small q in
-            lists-same _ y.listed _ y.listing y (ap (λ a. a % 4) r ∙ sym a) (ap (λ a. a / 4) r ∙ sym d) ∙ sym (ap (λ (t : Bool). cond t (lists 2 y.listing y) y) (ne_eqb j k q))
-      ]
+  raise_marks = relisted n k (lane n k + 1) 2 e raise-small (omega arith) (omega arith)
 
 -- the word after a collect, way by way
 collected_at : (n w : ℕ) (ns : List ℕ) (j : ℕ) → j < w → collect_at n w ns j ≡ collect_lane (lane n j) (get_or ns j 0)
