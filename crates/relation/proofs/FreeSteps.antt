@@ -181,10 +181,10 @@ noted-own xs k n =
       | inr l ↦ inl (ap (λ ys. get_or ys k 0) (set_past xs k n l) ∙ get_or_past xs k 0 l)
     ]
 
-closes-place : (s : Seat) → (state_number s.state ≡ 1) ⊎ (state_number s.state ≡ 3) → place_number (closes s) ≡ closing (stand_of s)
+pub closes-place : (s : Seat) → (state_number s.state ≡ 1) ⊎ (state_number s.state ≡ 3) → place_number (closes s) ≡ closing (stand_of s)
 closes-place s e = grind (arith, nat_tests)
 
-closes-range : (s : Seat) → (state_number s.state ≡ 1) ⊎ (state_number s.state ≡ 3) → (28 ≤ place_number (closes s)) × (place_number (closes s) ≤ 48) × (place_number (closes s) ≢ 35) × (state_number s.state ≡ 3 → 48 ≤ place_number (closes s))
+pub closes-range : (s : Seat) → (state_number s.state ≡ 1) ⊎ (state_number s.state ≡ 3) → (28 ≤ place_number (closes s)) × (place_number (closes s) ≤ 48) × (place_number (closes s) ≢ 35) × (state_number s.state ≡ 3 → 48 ≤ place_number (closes s))
 closes-range s e = (grind arith, grind arith, grind arith, grind arith)
 
 -- the gate is still taken by king and queen
@@ -381,7 +381,7 @@ module _ {b : BoxState} {G : Ghost} {p : ℕ} (A : Acts b G p (seat_at b p).heig
           (on OpenGate (omega arith) law)
           (λ r. absurd (omega arith)) turn.1
 
-    closes_walk : lawful_open w (goes_to s (closes s)) ≡ true → Walks w s (goes_to s (closes s))
+    pub closes_walk : lawful_open w (goes_to s (closes s)) ≡ true → Walks w s (goes_to s (closes s))
     closes_walk law =
         let r = closes-range s moves in
         record { law = law; state = refl; height = refl; top = refl; handed = refl; passage = refl; to = r.0; begun = r.2; later = λ d. r.3 (A.related.sound.handed p A.inside d).0 }
