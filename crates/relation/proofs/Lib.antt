@@ -17,3 +17,4 @@ pub mod Polls
 pub mod Writings
 pub mod Standing
 pub mod ClimbSteps
+pub mod ReleaseSteps
