@@ -1,13 +1,15 @@
 -- The steps of a seat that gives a gate back keep the relation: places 35, 36, 37, 48 and 49. Assumes nothing.
 --     keeps_read_apply  place 48
 --     keeps_open_alone  place 36
-use Rattle.std.proofs.Common.{◌≡◌, ℕ, ◌+◌, ◌/◌, ◌%◌, ◌<◌, ◌≤◌, true, false, cond, ◌||◌, ◌==◌, ◌≢◌, ◌⊎◌, List, Ok, sym, refl, ap, ◌∙◌, subst, inl, inr, arith}
+--     keeps_read_role   place 35
+use Rattle.std.proofs.Common.{◌≡◌, ℕ, ◌+◌, ◌-◌, ◌/◌, ◌%◌, ◌<◌, ◌≤◌, Bool, true, false, cond, ◌||◌, ◌==◌, ◌≢◌, ◌⊎◌, List, Ok, sym, refl, ap, ◌∙◌, subst, inl, inr, arith}
 use Rattle.std.proofs.lemmas.Bool.{cond_both, eqb-true, eqb-false}
 use Rattle.std.proofs.lemmas.Bool.Decides.{nat_tests}
 use Rattle.layout.specs.Gates.{heights_of, gate_of, way_of}
 use Rattle.seats.specs.declared.seat.Seat.{Seat}
 use Rattle.seats.specs.declared.state.State.{State}
 use Rattle.seats.specs.declared.state.State.TheVariants.{Away, Climbing, Holding, Leaving}
+use Rattle.seats.specs.declared.place.Place.{Place}
 use Rattle.seats.specs.declared.place.Place.TheVariants.{ReadRole, OpenAlone, HandOver, ReadApply, ClearApply, RaceToClose, StrikeSelf}
 use Rattle.seats.specs.Lawful.{lawful_open}
 use Rattle.seats.specs.Places.{state_number, place_number}
@@ -16,13 +18,15 @@ use Rattle.steps.specs.declared.cells.Cell.TheVariants.{Count, SyncOne, Apply, R
 use Rattle.steps.specs.Outcomes.{Outcome, did, put, holds}
 use Rattle.steps.specs.Release.{read_role_step, open_alone_step, hand_over_step, read_apply_step, clear_apply_step}
 use Rattle.lock.specs.States.{BoxState, seat_at}
-use Rattle.gate.proofs.Phases.{Phase}
-use Rattle.gate.proofs.Gates.{to, keeping, Nothing}
-use Rattle.gate.proofs.Moves.{has_queen, read_apply}
+use Rattle.gate.proofs.Phases.{Phase, Stand, WayOk}
+use Rattle.gate.proofs.Gates.{to, keeping, still, Nothing}
+use Rattle.gate.proofs.Moves.{release_king, release_queen, release_pawn, has_queen, read_apply}
 use Rattle.gate.proofs.Turns.{open_alone}
-use Rattle.relation.proofs.Views.{word_of, Ghost, stands_at, stand_of, stage_in, high_of, high_at}
+use Rattle.relation.proofs.Views.{word_of, Ghost, stands_at, stand_of, stage_in, stand_at, low_of, high_of, high_at}
+use Rattle.relation.proofs.Links.{shown-inside}
+use Rattle.relation.proofs.GateWords.{words_of}
 use Rattle.relation.proofs.Acting.{Acts, way_inside}
-use Rattle.relation.proofs.Polls.{Next, Goes, MoveOf}
+use Rattle.relation.proofs.Polls.{Next, Goes, MoveOf, begins}
 use Rattle.relation.proofs.Writings.{m, c₀, x₀, at-gate, here, cells_ok, way_ok, writes_nothing, writes-count, go, calmly, high_plain}
 use Rattle.relation.proofs.Standing.{stands_leaving}
 use Rattle.relation.proofs.ClimbSteps.{Keeps}
@@ -32,6 +36,10 @@ state_leaving Away e = absurd (omega arith)
 state_leaving Climbing e = absurd (omega arith)
 state_leaving Holding e = absurd (omega arith)
 state_leaving Leaving e = refl
+
+not_true : (x : Bool) → (x ≡ true → ⊥) → x ≡ false
+not_true true n = absurd (n refl)
+not_true false n = refl
 
 -- at these places a lawful seat leaves
 leaves : (w : ℕ) (s : Seat) → lawful_open w s ≡ true → 35 ≤ place_number s.place → place_number s.place ≤ 49 → s.state ≡ Leaving
@@ -103,3 +111,84 @@ module _ {b : BoxState} {G : Ghost} {p : ℕ} (A : Acts b G p (seat_at b p).heig
       go A (writes_nothing A) (goes_to s HandOver) f Nothing (λ j l o r. refl) (λ j l o. tt) n gs
       (high_plain w _ _ _ _ s (goes_to s HandOver) gs refl (omega arith) (inr (omega arith)) (inr (omega arith)))
       (λ r. absurd (omega arith)) (calmly A (c₀ A) (stand_of s) (to 37 (stand_of s)) (x₀ A) k))
+
+  module _ (e : s.place ≡ ReadRole) where
+    q : place_number s.place ≡ 35
+    q = ap place_number e
+
+    state : s.state ≡ Leaving
+    state = leaving (let q₀ = q in omega arith) (let q₀ = q in omega arith)
+
+    unhanded : s.handed ≡ false
+    unhanded = not_true s.handed (λ d. let c = A.related.sound.handed p A.inside d in let q₀ = q in omega arith)
+
+    range : (low_of s ≡ h) × (high_at b p ≡ s.top) × (h ≤ s.top)
+    range = let u = unhanded in let y = state in let q₀ = q in let l = A.related.sound.law p A.inside in (grind arith, grind arith, grind (arith, nat_tests))
+
+    owner : G.owner g i ≡ p + 1
+    owner = let r = range in A.related.linked.owned p h A.inside A.low A.high (omega arith, omega arith)
+
+    inside_was : stand_at b G h g i ≡ still 2
+    inside_was =
+        let o = owner in
+        let d : G.owner g i - 1 ≡ p = omega arith in
+        let u : stands_at s ≡ 0 = (let y = state in let q₀ = q in grind arith) in
+        let c : stands_at (seat_at b (G.owner g i - 1)) ≡ 0 = ap (λ v. stands_at (seat_at b v)) d ∙ u in
+        shown-inside (G.owner g i) h (seat_at b (G.owner g i - 1)) (λ z. omega arith) (λ z. let l = A.low in omega arith)
+
+    way_inside_ok : WayOk h H f (c₀ A) i (still 2) (x₀ A)
+    way_inside_ok = subst (λ (v : Stand). WayOk h H f (c₀ A) i v (x₀ A)) inside_was ((at-gate A).gate.ways i (way_inside b G p h A))
+    
+    begins_at : (x : Place) (n : ℕ) → place_number x ≡ n → 36 ≤ n → n ≢ 70 → MoveOf A f (still 2) (to n (stand_of s)) (c₀ A) (x₀ A) Nothing (λ j y. y) → Keeps b p (did b.cells (goes_to s x))
+    begins_at x n d l o k law ok =
+        let t = goes_to s x in
+        let y = state in
+        let u = unhanded in
+        let r = range in
+        let r₀ = r.0 in
+        let r₁ = r.1 in
+        let gone : t.handed ≡ true → ⊥ = λ v. let c : ◌≡◌ {A = ℕ} 0 1 = cc in omega arith in
+        let number : state_number s.state ≡ 3 = ap state_number y in
+        let stands : stands_at t ≡ h = grind arith in
+        let high : high_of w (word_of b g (Role (record { 0 = i }))) (word_of b g SyncOne) t ≡ s.top = grind arith in
+        let u₀ = writes_nothing A in
+        begins A t b.cells f (words_of b.cells (m A)) u₀.store (c₀ A) (x₀ A) Nothing (λ j y. y) u₀.marks (λ j l o r. refl) (λ j l o. tt) s.top (still 2) inside_was
+        (record {
+          law = law;
+          handed = λ v. absurd (gone v);
+          passage = λ v. (v, refl);
+          given = A.related.sound.given p A.inside;
+          yet = λ j v. absurd (let v₀ = v.0 in omega arith);
+          late = λ v. absurd (o (sym d ∙ v));
+        })
+        stands high refl
+        (record {
+          same = λ j l k' ne a₀ a₁. (a₀, omega arith);
+          back = λ j l k' ne a₀ a₁. (a₀, omega arith);
+          own = λ a₀ a₁. refl;
+          own_back = λ c. (omega arith, omega (arith, range));
+        })
+        (subst (λ (j : ℕ). MoveOf A f (still 2) (to j (stand_of s)) (c₀ A) (x₀ A) Nothing (λ j y. y)) (sym d) k)
+
+  pub keeps_read_role : s.place ≡ ReadRole → Keeps b p (read_role_step (m A) s b.cells)
+  keeps_read_role e =
+      let st : (stand_of s).stage ≡ 3 = ap stage_in (state e) in
+      let wo = way_inside_ok e in
+      cond_both (holds b.cells (m A) (Role (m A).way) 1) _ _ (Keeps b p)
+      (λ d.
+      begins_at e OpenAlone 36 refl (omega arith) (omega arith)
+      (calmly A (c₀ A) (still 2) (to 36 (stand_of s)) (x₀ A)
+      (release_king w h H f (c₀ A) i (here A) (still 2) (x₀ A) (cells_ok A) wo (stand_of s) refl (eqb-true _ _ d) st)))
+      (λ d₁.
+      cond_both (holds b.cells (m A) (Role (m A).way) 2) _ _ (Keeps b p)
+      (λ d.
+      begins_at e RaceToClose 56 refl (omega arith) (omega arith)
+      (calmly A (c₀ A) (still 2) (to 56 (stand_of s)) (x₀ A)
+      (release_queen w h H f (c₀ A) i (here A) (still 2) (x₀ A) (cells_ok A) wo (stand_of s) refl (eqb-true _ _ d) st)))
+      (λ d₂.
+      cond_both (holds b.cells (m A) (Role (m A).way) 4) _ _ (Keeps b p)
+      (λ d.
+      begins_at e StrikeSelf 64 refl (omega arith) (omega arith)
+      (calmly A (c₀ A) (still 2) (to 64 (stand_of s)) (x₀ A)
+      (release_pawn w h H f (c₀ A) i (here A) (still 2) (x₀ A) (cells_ok A) wo (stand_of s) refl (eqb-true _ _ d) st)))
+      (λ d₃ law ok. absurd (let z : ◌≡◌ {A = ℕ} 0 1 = cc in omega arith))))
