@@ -2,8 +2,9 @@
 --     keeps_read_apply  place 48
 --     keeps_open_alone  place 36
 --     keeps_read_role   place 35
+--     keeps_clear_apply place 49
 use Rattle.std.proofs.Common.{◌≡◌, ℕ, ◌+◌, ◌-◌, ◌/◌, ◌%◌, ◌<◌, ◌≤◌, Bool, true, false, cond, ◌||◌, ◌==◌, ◌≢◌, ◌⊎◌, List, Ok, sym, refl, ap, ◌∙◌, subst, inl, inr, arith}
-use Rattle.std.proofs.lemmas.Bool.{cond_both, eqb-true, eqb-false}
+use Rattle.std.proofs.lemmas.Bool.{cond_both, eqb-true, eqb-false, eq-eqb}
 use Rattle.std.proofs.lemmas.Bool.Decides.{nat_tests}
 use Rattle.layout.specs.Gates.{heights_of, gate_of, way_of}
 use Rattle.seats.specs.declared.seat.Seat.{Seat}
@@ -15,19 +16,20 @@ use Rattle.seats.specs.Lawful.{lawful_open}
 use Rattle.seats.specs.Places.{state_number, place_number}
 use Rattle.seats.specs.Seats.{away, moved, goes_to, keeps_for}
 use Rattle.steps.specs.declared.cells.Cell.TheVariants.{Count, SyncOne, Apply, Role}
-use Rattle.steps.specs.Outcomes.{Outcome, did, put, holds}
+use Rattle.steps.specs.Outcomes.{did, put, holds, swapped}
+use Rattle.steps.specs.Codes.{pro}
 use Rattle.steps.specs.Release.{read_role_step, open_alone_step, hand_over_step, read_apply_step, clear_apply_step}
 use Rattle.lock.specs.States.{BoxState, seat_at}
-use Rattle.gate.proofs.Phases.{Phase, Stand, WayOk}
-use Rattle.gate.proofs.Gates.{to, keeping, still, Nothing}
-use Rattle.gate.proofs.Moves.{release_king, release_queen, release_pawn, has_queen, read_apply}
+use Rattle.gate.proofs.Phases.{Stand, Marks, Cells, Phase, idle, solo, pair, clean, free, drain, prom, WayOk}
+use Rattle.gate.proofs.Gates.{to, keeping, still, applies, Nothing}
+use Rattle.gate.proofs.Moves.{release_king, release_queen, release_pawn, has_queen, read_apply, clear_apply}
 use Rattle.gate.proofs.Turns.{open_alone}
 use Rattle.relation.proofs.Views.{word_of, Ghost, stands_at, stand_of, stage_in, stand_at, low_of, high_of, high_at}
 use Rattle.relation.proofs.Links.{shown-inside}
 use Rattle.relation.proofs.GateWords.{words_of}
 use Rattle.relation.proofs.Acting.{Acts, way_inside}
-use Rattle.relation.proofs.Polls.{Next, Goes, MoveOf, begins}
-use Rattle.relation.proofs.Writings.{m, c₀, x₀, at-gate, here, cells_ok, way_ok, writes_nothing, writes-count, go, calmly, high_plain}
+use Rattle.relation.proofs.Polls.{Next, Ranges, Goes, Rests, MoveOf, rests-gone, begins}
+use Rattle.relation.proofs.Writings.{m, c₀, x₀, at-gate, here, cells_ok, way_ok, writes_nothing, writes-count, writes-apply, go, calmly, high_plain}
 use Rattle.relation.proofs.Standing.{stands_leaving}
 use Rattle.relation.proofs.ClimbSteps.{Keeps}
 
@@ -44,6 +46,17 @@ not_true false n = refl
 -- at these places a lawful seat leaves
 leaves : (w : ℕ) (s : Seat) → lawful_open w s ≡ true → 35 ≤ place_number s.place → place_number s.place ≤ 49 → s.state ≡ Leaving
 leaves w s l a b = state_leaving s.state (grind (arith, nat_tests))
+
+module _ (h H : ℕ) (c : Cells) (i : ℕ) (v : Stand) (x : Marks) (leaves : v.stage ≡ 3) (last : v.place ≡ 49) where
+  -- at place 49 one's application is the kept one
+  closing_reads : (f : Phase) → WayOk h H f c i v x → (x.applied ≡ 2) × (x.number ≡ v.kept_number)
+  closing_reads idle wo = (grind arith, grind arith)
+  closing_reads (solo k) wo = (grind arith, grind arith)
+  closing_reads (pair k q) wo = (grind arith, grind arith)
+  closing_reads (clean r a) wo = (grind arith, grind arith)
+  closing_reads (free r) wo = (grind arith, grind arith)
+  closing_reads (drain r) wo = (grind arith, grind arith)
+  closing_reads (prom p) wo = (grind arith, grind arith)
 
 module _ {b : BoxState} {G : Ghost} {p : ℕ} (A : Acts b G p (seat_at b p).height) where
   abbrev s : Seat
@@ -192,3 +205,91 @@ module _ {b : BoxState} {G : Ghost} {p : ℕ} (A : Acts b G p (seat_at b p).heig
       (calmly A (c₀ A) (still 2) (to 64 (stand_of s)) (x₀ A)
       (release_pawn w h H f (c₀ A) i (here A) (still 2) (x₀ A) (cells_ok A) wo (stand_of s) refl (eqb-true _ _ d) st)))
       (λ d₃ law ok. absurd (let z : ◌≡◌ {A = ℕ} 0 1 = cc in omega arith))))
+
+  module _ (e : s.place ≡ ClearApply) where
+    nine : place_number s.place ≡ 49
+    nine = ap place_number e
+
+    n₉ : stands_at s ≢ 0
+    n₉ = let q = nine in stands (omega arith) (omega arith) (omega arith)
+
+    st₉ : (stand_of s).stage ≡ 3
+    st₉ = let q = nine in stage (omega arith) (omega arith)
+
+    ranges₉ : (low_of s ≡ h) × (high_at b p ≡ cond s.handed h s.top)
+    ranges₉ = let q = nine in let y : s.state ≡ Leaving = leaving (omega arith) (omega arith) in (grind arith, grind arith)
+
+    clears₉ : word_of b g (Apply (record { 0 = i })) ≡ pro s.kept_number.0
+    clears₉ = let c = closing_reads h H (c₀ A) i (stand_of s) (x₀ A) st₉ nine f (way_ok A n₉) in let c₀ = c.0 in let c₁ = c.1 in omega arith
+
+    gone : MoveOf A f (stand_of s) (still 0) (c₀ A) (applies 0 0 (x₀ A)) Nothing (λ j y. y)
+    gone =
+        calmly A (c₀ A) (stand_of s) (still 0) (applies 0 0 (x₀ A))
+        (clear_apply w h H f (c₀ A) i (here A) (stand_of s) (x₀ A) (cells_ok A) (way_ok A n₉) st₉ nine)
+
+    rests_at : (t : Seat) (lo hi : ℕ) → Rests w s t lo hi → Ranges w h (low_of s) (high_at b p) lo hi p 0 → Next b p t (put b.cells (m A) (Apply (m A).way) 0)
+    rests_at t lo hi d r =
+        let u = writes-apply A (writes_nothing A) 0 (omega arith) in
+        rests-gone A t (put b.cells (m A) (Apply (m A).way) 0) f _ u.store (c₀ A) (applies 0 0 (x₀ A)) Nothing (λ j y. y) u.marks (λ j l o r. refl) (λ j l o. tt) lo hi n₉ d r gone
+
+    leave_box : (s.handed || s.height == s.top) ≡ true → Next b p away (put b.cells (m A) (Apply (m A).way) 0)
+    leave_box d =
+        let r = ranges₉ in
+        let r₀ = r.0 in
+        let r₁ : high_at b p ≡ h = grind (arith, nat_tests) in
+        rests_at away 1 0
+        (record {
+          law = refl;
+          nowhere = refl;
+          handed = refl;
+          passage = λ v. absurd (v refl);
+          given = omega arith;
+          yet = λ k y. absurd (let y₀ = y.0 in omega arith);
+          place = omega arith;
+          low = refl;
+          high = λ r v. refl;
+        })
+        (record {
+          same = λ k l k' ne a₀ a₁. absurd (omega arith);
+          back = λ k l k' ne a₀ a₁. absurd (omega arith);
+          own = λ a₀ a₁. absurd (omega arith);
+          own_back = λ c. absurd (omega arith);
+        })
+
+    next_height : (s.handed || s.height == s.top) ≡ false → lawful_open w (moved s s.state ReadRole (h + 1) s.top) ≡ true → Next b p (moved s s.state ReadRole (h + 1) s.top) (put b.cells (m A) (Apply (m A).way) 0)
+    next_height d law =
+        let q = nine in
+        let y : s.state ≡ Leaving = leaving (omega arith) (omega arith) in
+        let y₁ : state_number s.state ≡ 3 = ap state_number y in
+        let t = moved s s.state ReadRole (h + 1) s.top in
+        let r = ranges₉ in
+        let r₀ = r.0 in
+        let u : s.handed ≡ false = grind (arith, nat_tests) in
+        let r₁ : high_at b p ≡ s.top = grind arith in
+        rests_at t (h + 1) s.top
+        (record {
+          law = law;
+          nowhere = grind arith;
+          handed = u;
+          passage = λ v. refl;
+          given = omega arith;
+          yet = λ k y. absurd (let y₀ = y.0 in omega arith);
+          place = omega arith;
+          low = grind arith;
+          high = λ r v. grind arith;
+        })
+        (record {
+          same = λ k l k' ne a₀ a₁. (omega arith, omega arith);
+          back = λ k l k' ne a₀ a₁. (omega arith, omega arith);
+          own = λ a₀ a₁. absurd (omega arith);
+          own_back = λ c. absurd (omega arith);
+        })
+
+  pub keeps_clear_apply : s.place ≡ ClearApply → Keeps b p (clear_apply_step (m A) s b.cells)
+  keeps_clear_apply e =
+      let c = clears₉ e in
+      let d : swapped b.cells (m A) (Apply (m A).way) (pro s.kept_number.0) 0 ≡ put b.cells (m A) (Apply (m A).way) 0 =
+      ap (λ (t : Bool). cond t (put b.cells (m A) (Apply (m A).way) 0) b.cells) (eq-eqb _ _ c) in
+      subst (λ (ws : List ℕ). Keeps b p (did ws (cond (s.handed || s.height == s.top) away (moved s s.state ReadRole (h + 1) s.top)))) (sym d)
+      (cond_both (s.handed || s.height == s.top) away (moved s s.state ReadRole (h + 1) s.top) (λ (t : Seat). Keeps b p (did (put b.cells (m A) (Apply (m A).way) 0) t))
+      (λ k law ok. leave_box e k) (λ k law ok. next_height e k law))
