@@ -17,4 +17,5 @@ pub mod Polls
 pub mod Writings
 pub mod Standing
 pub mod ClimbSteps
+pub mod HandingOver
 pub mod ReleaseSteps
