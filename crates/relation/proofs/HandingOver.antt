@@ -15,7 +15,7 @@ use Rattle.gate.proofs.Phases.{Stand, Marks, Cells, Phase, idle, solo, pair, cle
 use Rattle.relation.proofs.Geometry.{gate_inside, above, height_apart}
 use Rattle.relation.proofs.Views.{Ghost, stands_at, shown, stand_at, Occupies}
 use Rattle.relation.proofs.Relation.{Sized, Linked, GateAt, Related}
-use Rattle.relation.proofs.Frame.{SeatChange, seat_else, sound-change, same_words, Elsewhere, gates_change}
+use Rattle.relation.proofs.Frame.{SeatChange, seat_else, sound-change, same_words, gates_change}
 use Rattle.relation.proofs.Links.{shown-nobody, shown-inside}
 use Rattle.relation.proofs.Acting.{Queenly}
 

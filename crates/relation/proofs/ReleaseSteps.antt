@@ -1,12 +1,12 @@
 -- The steps of a seat that gives a gate back keep the relation: places 35, 36, 37, 48 and 49. Assumes nothing.
---     keeps_read_apply  place 48
---     keeps_open_alone  place 36
---     keeps_read_role   place 35
---     keeps_clear_apply place 49
---     keeps_hand_over   place 37
+--     keeps_read_role    place 35
+--     keeps_open_alone   place 36
+--     keeps_hand_over    place 37
+--     keeps_read_apply   place 48
+--     keeps_clear_apply  place 49
+use Rattle.std.proofs.Common.{◌≡◌, ℕ, ◌+◌, ◌-◌, ◌/◌, ◌%◌, ◌<◌, ◌≤◌, Bool, true, false, cond, ◌||◌, ◌==◌, ◌≢◌, ◌⊎◌, List, sym, refl, ap, ◌∙◌, subst, inr, arith}
 use native.Mathlib.Decide.{ℕ_discrete}
-use Rattle.std.proofs.Common.{◌≡◌, ℕ, zero, suc, ◌+◌, ◌-◌, ◌/◌, ◌%◌, ◌<◌, ◌≤◌, Bool, true, false, cond, eqb, ◌||◌, ◌==◌, ◌≢◌, ◌⊎◌, List, Ok, sym, refl, ap, ◌∙◌, subst, inl, inr, arith}
-use Rattle.std.proofs.lemmas.Bool.{cond_both, eqb-true, eqb-false, eq-eqb, ne_eqb, cases_lt}
+use Rattle.std.proofs.lemmas.Bool.{cond_both, eqb-true, eqb-false, eq-eqb, ne_eqb}
 use Rattle.std.proofs.lemmas.Bool.Decides.{nat_tests}
 use Rattle.layout.specs.Gates.{heights_of, seats_of, gate_of, way_of}
 use Rattle.seats.specs.declared.seat.Seat.{Seat}
@@ -18,7 +18,7 @@ use Rattle.seats.specs.Lawful.{lawful_open}
 use Rattle.seats.specs.Places.{state_number, place_number, within}
 use Rattle.seats.specs.Seats.{away, moved, goes_to, scans, hands_over, keeps_for}
 use Rattle.steps.specs.declared.cells.Cell.TheVariants.{Count, SyncOne, Apply, Role}
-use Rattle.steps.specs.Outcomes.{did, put, holds, swapped}
+use Rattle.steps.specs.Outcomes.{Outcome, did, unfit_at, put, holds, swapped}
 use Rattle.steps.specs.Codes.{pro}
 use Rattle.steps.specs.Release.{read_role_step, open_alone_step, hand_over_step, read_apply_step, clear_apply_step}
 use Rattle.lock.specs.States.{BoxState, seat_at, with_seat}
@@ -26,17 +26,17 @@ use Rattle.gate.proofs.Phases.{Stand, Marks, Cells, Phase, idle, solo, pair, cle
 use Rattle.gate.proofs.Gates.{to, keeping, still, applies, syncs_one, Gate, gate_same, Nothing}
 use Rattle.gate.proofs.Moves.{release_king, release_queen, release_pawn, has_queen, hand_over, no_hand_over, read_apply, clear_apply}
 use Rattle.gate.proofs.Turns.{open_alone}
-use Rattle.relation.proofs.Geometry.{gate_inside, above, height_apart}
-use Rattle.relation.proofs.Views.{word_of, cells_at, marks_at, Ghost, stands_at, stand_of, stage_in, shown, stand_at, low_of, high_of, high_at, Occupies}
-use Rattle.relation.proofs.Relation.{Sized, Linked, GateAt, Related}
-use Rattle.relation.proofs.Frame.{SeatChange, seat_own, seat_else, sound-change, same_words, Elsewhere, gates_change}
-use Rattle.relation.proofs.Links.{turned_ghost, shown-nobody, shown-here, shown-inside}
+use Rattle.relation.proofs.Geometry.{gate_inside, height_apart}
+use Rattle.relation.proofs.Views.{word_of, cells_at, marks_at, Ghost, stands_at, stand_of, stage_in, shown, stand_at, low_of, high_of, high_at}
+use Rattle.relation.proofs.Relation.{Sized, GateAt}
+use Rattle.relation.proofs.Frame.{seat_own, seat_else, same_words}
+use Rattle.relation.proofs.Links.{turned_ghost, shown-here, shown-inside}
 use Rattle.relation.proofs.GateWords.{Words, written, words_of}
 use Rattle.relation.proofs.Acting.{Queenly, Waits, high_same, occupies_own, Acts, way_inside, moved-gate, outside-words, stand-here}
 use Rattle.relation.proofs.Polls.{Next, Ranges, Goes, Rests, MoveOf, own_occupant, stand_was, rests-gone, begins}
 use Rattle.relation.proofs.Writings.{m, c₀, x₀, at-gate, here, cells_ok, way_ok, writes_nothing, Writing, writes-count, writes-sync-one, writes-apply, go, calmly, high_plain}
 use Rattle.relation.proofs.Standing.{stands_leaving, Stander, stander}
-use Rattle.relation.proofs.HandingOver.{Queen, queen, Shift, HandOver as Handing, handed_ghost, handed_related}
+use Rattle.relation.proofs.HandingOver.{Queen, queen, Shift, handed_ghost, handed_related}
 use Rattle.relation.proofs.ClimbSteps.{Keeps}
 
 state_leaving : (x : State) → state_number x ≡ 3 → x ≡ Leaving
@@ -182,7 +182,7 @@ module _ {b : BoxState} {G : Ghost} {p : ℕ} (A : Acts b G p (seat_at b p).heig
 
     way_inside_ok : WayOk h H f (c₀ A) i (still 2) (x₀ A)
     way_inside_ok = subst (λ (v : Stand). WayOk h H f (c₀ A) i v (x₀ A)) inside_was ((at-gate A).gate.ways i (way_inside b G p h A))
-    
+
     begins_at : (x : Place) (n : ℕ) → place_number x ≡ n → 36 ≤ n → n ≢ 70 → MoveOf A f (still 2) (to n (stand_of s)) (c₀ A) (x₀ A) Nothing (λ j y. y) → Keeps b p (did b.cells (goes_to s x))
     begins_at x n d l o k law ok =
         let t = goes_to s x in
@@ -214,23 +214,30 @@ module _ {b : BoxState} {G : Ghost} {p : ℕ} (A : Acts b G p (seat_at b p).heig
         })
         (subst (λ (j : ℕ). MoveOf A f (still 2) (to j (stand_of s)) (c₀ A) (x₀ A) Nothing (λ j y. y)) (sym d) k)
 
+  abbrev as_pawn : Outcome (Unit {0})
+  as_pawn =
+      cond (holds b.cells (m A) (Role (m A).way) 4) (did b.cells (goes_to s StrikeSelf)) (unfit_at (m A) (Role (m A).way) b.cells s)
+
+  abbrev as_queen : Outcome (Unit {0})
+  as_queen = cond (holds b.cells (m A) (Role (m A).way) 2) (did b.cells (goes_to s RaceToClose)) as_pawn
+
   pub keeps_read_role : s.place ≡ ReadRole → Keeps b p (read_role_step (m A) s b.cells)
   keeps_read_role e =
       let st : (stand_of s).stage ≡ 3 = ap stage_in (state e) in
       let wo = way_inside_ok e in
-      cond_both (holds b.cells (m A) (Role (m A).way) 1) _ _ (Keeps b p)
+      cond_both (holds b.cells (m A) (Role (m A).way) 1) (did b.cells (goes_to s OpenAlone)) as_queen (Keeps b p)
       (λ d.
       begins_at e OpenAlone 36 refl (omega arith) (omega arith)
       (calmly A (c₀ A) (still 2) (to 36 (stand_of s)) (x₀ A)
       (release_king w h H f (c₀ A) i (here A) (still 2) (x₀ A) (cells_ok A) wo (stand_of s) refl (eqb-true _ _ d) st)))
       (λ d₁.
-      cond_both (holds b.cells (m A) (Role (m A).way) 2) _ _ (Keeps b p)
+      cond_both (holds b.cells (m A) (Role (m A).way) 2) (did b.cells (goes_to s RaceToClose)) as_pawn (Keeps b p)
       (λ d.
       begins_at e RaceToClose 56 refl (omega arith) (omega arith)
       (calmly A (c₀ A) (still 2) (to 56 (stand_of s)) (x₀ A)
       (release_queen w h H f (c₀ A) i (here A) (still 2) (x₀ A) (cells_ok A) wo (stand_of s) refl (eqb-true _ _ d) st)))
       (λ d₂.
-      cond_both (holds b.cells (m A) (Role (m A).way) 4) _ _ (Keeps b p)
+      cond_both (holds b.cells (m A) (Role (m A).way) 4) (did b.cells (goes_to s StrikeSelf)) (unfit_at (m A) (Role (m A).way) b.cells s) (Keeps b p)
       (λ d.
       begins_at e StrikeSelf 64 refl (omega arith) (omega arith)
       (calmly A (c₀ A) (still 2) (to 64 (stand_of s)) (x₀ A)
