@@ -20,3 +20,5 @@ pub mod ClimbSteps
 pub mod AbortSteps
 pub mod CloseSteps
 pub mod FreeSteps
+pub mod HandingOver
+pub mod ReleaseSteps
