@@ -22,3 +22,4 @@ pub mod CloseSteps
 pub mod FreeSteps
 pub mod HandingOver
 pub mod ReleaseSteps
+pub mod StepLaws
