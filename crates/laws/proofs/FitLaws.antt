@@ -3,7 +3,7 @@
 --     Fits         the words that a step reads at 14, 27, 35 and 59 fit
 --     step_done    a step whose words fit is done
 --     fit_related  every call of a related box is answered so
-use Rattle.std.proofs.Common.{◌≡◌, ℕ, ◌<◌, ◌≤◌, true, false, not, ◌&&◌, ◌||◌, eqb, leb, ltb, Bool, ◌≢◌, ◌⊎◌, List, length, Some, None, Ok, Err, Option, Result, sym, refl, ap, ◌∙◌, subst, inl, inr, ⊎_elim, arith}
+use Rattle.std.proofs.Common.{◌≡◌, ℕ, ◌-◌, ◌<◌, ◌≤◌, true, false, not, ◌&&◌, ◌||◌, eqb, leb, ltb, Bool, ◌≢◌, ◌⊎◌, List, length, Some, None, Ok, Err, Option, Result, sym, refl, ap, ◌∙◌, subst, inl, inr, ⊎_elim, arith}
 use Rattle.std.proofs.lemmas.Bool.{cond_both, ltb-true}
 use Rattle.std.proofs.lemmas.Bool.Decides.{nat_tests}
 use Rattle.layout.specs.declared.fault.Refusal.{Refusal}
@@ -27,7 +27,8 @@ use Rattle.laws.specs.declared.call.Call.{Call}
 use Rattle.laws.specs.declared.call.Call.TheVariants.{Apply, Poll, GiveUp, Leave, Publish}
 use Rattle.laws.specs.Runs.{performed}
 use Rattle.laws.specs.Law.{FitAnswer}
-use Rattle.relation.proofs.Views.{word_of, Ghost, stands_at, stand_of, stage_in, low_of, high_at, stand_at, Occupies}
+use Rattle.gate.proofs.Gates.{still}
+use Rattle.relation.proofs.Views.{word_of, Ghost, stands_at, stand_of, stage_in, low_of, high_of, stand_at, Occupies}
 use Rattle.relation.proofs.Relation.{Related}
 use Rattle.relation.proofs.Links.{shown-inside}
 use Rattle.relation.proofs.Accepted.{poll_step}
@@ -74,3 +75,112 @@ record Fits (x : Place) (m : Meeting) (s : Seat) (ws : List ℕ) : Type 0 where
 
 step_done : (x : Place) (c : Coin) (m : Meeting) (s : Seat) (ws : List ℕ) → Fits x m s ws → (step_of x c m s ws).answer ≡ Ok tt
 step_done x c m s ws f = grind (arith, nat_tests)
+
+height_inside : (w : ℕ) (s : Seat) → lawful_open w s ≡ true → state_number s.state ≢ 0 → (1 ≤ s.height) × (s.height ≤ heights_of w)
+height_inside w s law n = (grind (arith, nat_tests), grind (arith, nat_tests))
+
+stage_number : (s : Seat) → stage_in s.state ≡ state_number s.state
+stage_number s = grind arith
+
+-- a lawful seat at 14 or 27 climbs, at 35 it leaves and has its gates up to the top, and at 59 it does one of the two
+climbs_waiting : (w : ℕ) (s : Seat) → lawful_open w s ≡ true → (place_number s.place ≡ 14) ⊎ (place_number s.place ≡ 27) → (state_number s.state ≡ 1) × (stands_at s ≢ 0)
+climbs_waiting w s law e = (grind (arith, nat_tests), λ d. grind (arith, nat_tests))
+
+leaves_at_35 : (w : ℕ) (s : Seat) → lawful_open w s ≡ true → place_number s.place ≡ 35 → (state_number s.state ≡ 3) × (stands_at s ≡ 0) × (s.height ≤ s.top)
+leaves_at_35 w s law e = (grind (arith, nat_tests), grind (arith, nat_tests), grind (arith, nat_tests))
+
+moves_at_59 : (w : ℕ) (s : Seat) → lawful_open w s ≡ true → place_number s.place ≡ 59 → ((state_number s.state ≡ 1) ⊎ (state_number s.state ≡ 3)) × (stands_at s ≢ 0)
+moves_at_59 w s law e = (grind (arith, nat_tests), λ d. grind (arith, nat_tests))
+
+leaving_low : (s : Seat) → state_number s.state ≡ 3 → low_of s ≤ s.height
+leaving_low s e = grind arith
+
+leaving_high : (w r t : ℕ) (s : Seat) → state_number s.state ≡ 3 → (s.handed ≡ true → ⊥) → s.height ≤ s.top → s.height ≤ high_of w r t s
+leaving_high w r t s e n l = grind (arith, nat_tests)
+
+module _ (b : BoxState) (G : Ghost) (R : Related b G) (p : ℕ) (pl : p < seats_of b.ways) where
+  abbrev w : ℕ
+  w = b.ways
+
+  abbrev s : Seat
+  s = seat_at b p
+
+  abbrev h : ℕ
+  h = s.height
+
+  abbrev g : ℕ
+  g = gate_of w p h
+
+  abbrev i : ℕ
+  i = way_of w p h
+
+  law : lawful_open w s ≡ true
+  law = R.sound.law p pl
+
+  acting : state_number s.state ≢ 0 → Occupies b p h → Acts b G p h
+  acting n o =
+      let q = height_inside w s law n in
+      let q₁ = q.1 in
+      let few = R.sound.sized.few in
+      let high : h < w = omega arith in
+      record { related = R; inside = pl; height = refl; low = q.0; high = high; occupant = inr (R.linked.owned p h pl q.0 high o) }
+
+  standing : state_number s.state ≢ 0 → stands_at s ≢ 0 → Acts b G p h
+  standing n d =
+      let q = occupies_own w (word_of b g (Role (record { 0 = i }))) (word_of b g SyncOne) s law d in
+      acting n (q.3, q.4)
+
+  -- who is about to give its gates back has handed over nothing, and has them up to the top
+  at_35 : place_number s.place ≡ 35 → Occupies b p h
+  at_35 d =
+      let c = leaves_at_35 w s law d in
+      let state = c.0 in
+      let top = c.2 in
+      let kept : s.handed ≡ true → ⊥ = λ e. let q = (R.sound.handed p pl e).1 in omega arith in
+      (leaving_low s c.0, leaving_high w (word_of b g (Role (record { 0 = i }))) (word_of b g SyncOne) s c.0 kept c.2)
+
+  waits_fits : s.place ≡ AwaitKing → (word_of b g SyncOne ≡ 0) ⊎ ((h ≤ word_of b g SyncOne) × (word_of b g SyncOne ≤ heights_of w))
+  waits_fits e =
+      let d : place_number s.place ≡ 14 = ap place_number e in
+      let c = climbs_waiting w s law (inl d) in
+      let A = standing (λ z. let y = c.0 in omega arith) c.1 in
+      (queen_waits w h (heights_of w) (G.phase g) (c₀ A) i (stand_of s) (x₀ A) (here A).low (here A).high (here A).most (cells_ok A) (way_ok A c.1) (stage_number s ∙ c.0) d).1
+
+  accepts_fits : s.place ≡ AcceptGate → (h ≤ word_of b g SyncOne) × (word_of b g SyncOne ≤ heights_of w)
+  accepts_fits e =
+      let d : place_number s.place ≡ 27 = ap place_number e in
+      let c = climbs_waiting w s law (inr d) in
+      let A = standing (λ z. let y = c.0 in omega arith) c.1 in
+      let q = queen_accepts w h (heights_of w) (G.phase g) (c₀ A) i (stand_of s) (x₀ A) (here A).low (here A).high (here A).most (cells_ok A) (way_ok A c.1) (stage_number s ∙ c.0) d in
+      (q.1, q.2)
+
+  closed_fits : s.place ≡ ReadSyncTwo → (1 ≤ word_of b g SyncTwo) × (word_of b g SyncTwo ≤ w)
+  closed_fits e =
+      let d : place_number s.place ≡ 59 = ap place_number e in
+      let c = moves_at_59 w s law d in
+      let A = standing (λ z. let y = c.0 in omega arith) c.1 in
+      let q = stage_number s in
+      first_closed w h (heights_of w) (G.phase g) (c₀ A) i (stand_of s) (x₀ A) (here A).low (here A).high (here A).most (cells_ok A) (way_ok A c.1)
+      (⊎_elim (λ (y : state_number s.state ≡ 1). inl (q ∙ y)) (λ (y : state_number s.state ≡ 3). inr (q ∙ y)) c.0) d
+
+  releases_fits : s.place ≡ ReadRole → (word_of b g (Role (record { 0 = i })) ≡ 1) ⊎ ((word_of b g (Role (record { 0 = i })) ≡ 2) ⊎ (word_of b g (Role (record { 0 = i })) ≡ 4))
+  releases_fits e =
+      let d : place_number s.place ≡ 35 = ap place_number e in
+      let c = leaves_at_35 w s law d in
+      let n : state_number s.state ≢ 0 = λ z. let y = c.0 in omega arith in
+      let o = at_35 d in
+      let A = acting n o in
+      let low = A.low in
+      let stands = c.1 in
+      let own = R.linked.owned p h pl A.low A.high o in
+      let t = seat_at b (G.owner g i - 1) in
+      let same : t ≡ s = ap (λ q. seat_at b q) (let u : G.owner g i - 1 ≡ p = omega arith in u) in
+      let inside : stand_at b G h g i ≡ still 2 =
+      shown-inside (G.owner g i) h t (λ z. omega arith) (λ z. let u = ap stands_at same in omega arith) in
+      role_released w h (heights_of w) (G.phase g) (c₀ A) i (stand_at b G h g i) (x₀ A) (here A).low (here A).high (here A).most (cells_ok A) ((at-gate A).gate.ways i (here A).way) (ap (λ v. v.stage) inside)
+
+  fits : Fits s.place (meeting w p h) s b.cells
+  fits = record { waits = waits_fits; accepts = accepts_fits; releases = releases_fits; closed = closed_fits }
+
+  done : (k : ℕ) → (poll_step b p k).answer ≡ Ok tt
+  done k = step_done s.place (coin_of k) (meeting w p h) s b.cells fits
