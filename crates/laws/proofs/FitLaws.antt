@@ -4,7 +4,7 @@
 --     step_done    a step whose words fit is done
 --     fit_related  every call of a related box is answered so
 use Rattle.std.proofs.Common.{◌≡◌, ℕ, ◌-◌, ◌<◌, ◌≤◌, true, false, not, ◌&&◌, ◌||◌, eqb, leb, ltb, Bool, ◌≢◌, ◌⊎◌, List, length, Some, None, Ok, Err, Option, Result, sym, refl, ap, ◌∙◌, subst, inl, inr, ⊎_elim, arith}
-use Rattle.std.proofs.lemmas.Bool.{cond_both, ltb-true}
+use Rattle.std.proofs.lemmas.Bool.{cond_both, eqb-false}
 use Rattle.std.proofs.lemmas.Bool.Decides.{nat_tests}
 use Rattle.layout.specs.declared.fault.Refusal.{Refusal}
 use Rattle.layout.specs.declared.path.Meeting.{Meeting}
@@ -44,8 +44,15 @@ fit_else : (f g : Option Refusal) → FitRefusal f → (f ≡ None → FitRefusa
 fit_else None g a n = n refl
 fit_else (Some f) g a n = a
 
-fit_ask : (q : Bool) (x p : ℕ) (rest : Option Refusal) → x ≢ 5 → x ≢ 10 → (q ≡ true → FitRefusal rest) → FitRefusal (ask q (refusal x p) rest)
-fit_ask q x p rest a b n = cond_both q rest (Some (refusal x p)) FitRefusal n (λ e. (a, b))
+fit_ask : (q : Bool) (x p : ℕ) (rest : Option Refusal) → eqb x 5 ≡ false → eqb x 10 ≡ false → FitRefusal rest → FitRefusal (ask q (refusal x p) rest)
+fit_ask q x p rest a b o = cond_both q rest (Some (refusal x p)) FitRefusal (λ e. o) (λ e. (eqb-false x 5 a, eqb-false x 10 b))
+
+fit_lawful : (q : Bool) (p : ℕ) (rest : Option Refusal) → q ≡ true → FitRefusal rest → FitRefusal (ask q (refusal 5 p) rest)
+fit_lawful q p rest e o = subst (λ (x : Bool). FitRefusal (ask x (refusal 5 p) rest)) (sym e) o
+
+-- a seat that is reached is one of the box
+inside : (b : BoxState) (p : ℕ) → reach_refusal b.ways (length b.seats) (length b.cells) p ≡ None → p < seats_of b.ways
+inside b p e = grind (arith, nat_tests)
 
 fit_settled : (b : BoxState) (f : Option Refusal) (x : ℕ) (a : BoxState) → FitRefusal f → FitAnswer (settled b f x a).answer
 fit_settled b None x a o = tt
@@ -184,3 +191,58 @@ module _ (b : BoxState) (G : Ghost) (R : Related b G) (p : ℕ) (pl : p < seats_
 
   done : (k : ℕ) → (poll_step b p k).answer ≡ Ok tt
   done k = step_done s.place (coin_of k) (meeting w p h) s b.cells fits
+
+  lawful_here : lawful w s ≡ true
+  unfolding lawful
+  lawful_here = law
+
+module _ (b : BoxState) (G : Ghost) (R : Related b G) where
+  fit_reach : (p : ℕ) → FitRefusal (reach_refusal b.ways (length b.seats) (length b.cells) p)
+  fit_reach p =
+      fit_ask (leb (cells_of b.ways) (length b.cells)) 2 p _ refl refl
+      (fit_ask (leb (seats_of b.ways) (length b.seats)) 3 p _ refl refl (fit_ask (ltb p (seats_of b.ways)) 4 p None refl refl tt))
+
+  fit_enter : (p : ℕ) → FitRefusal (enter_refusal b p)
+  unfolding enter_refusal
+  fit_enter p =
+      fit_else (reach_refusal b.ways (length b.seats) (length b.cells) p) _ (fit_reach p)
+      (λ e. fit_lawful (lawful b.ways (seat_at b p)) p None (lawful_here b G R p (inside b p e)) tt)
+
+  fit_own : (p n : ℕ) → FitRefusal (own_refusal b p n)
+  fit_own p n =
+      fit_else (enter_refusal b p) _ (fit_enter p) (λ e. fit_ask (takes_part n (seat_at b p)) 6 p None refl refl tt)
+
+  fit_apply : (p : ℕ) → FitRefusal (apply_refusal b p)
+  fit_apply p =
+      fit_else (enter_refusal b p) _ (fit_enter p)
+      (λ e. fit_ask (is_in 0 (seat_at b p)) 7 p _ refl refl (fit_ask (leb b.next 16383) 8 p None refl refl tt))
+
+  fit_give_up : (p n : ℕ) → FitRefusal (give_up_refusal b p n)
+  fit_give_up p n =
+      fit_else (own_refusal b p n) _ (fit_own p n)
+      (λ e. fit_ask (is_in 1 (seat_at b p) && not (seat_at b p).gave_up) 7 p None refl refl tt)
+
+  fit_holder : (p n : ℕ) → FitRefusal (holder_refusal b p n)
+  fit_holder p n =
+      fit_else (own_refusal b p n) _ (fit_own p n) (λ e. fit_ask (is_in 2 (seat_at b p)) 7 p None refl refl tt)
+
+  fit_poll : (p n k : ℕ) → p < seats_of b.ways → FitRefusal (poll_refusal b.ways p n k (seat_at b p) (length b.cells))
+  fit_poll p n k l =
+      fit_ask (leb (cells_of b.ways) (length b.cells)) 2 p _ refl refl
+      (fit_lawful (lawful b.ways (seat_at b p)) p _ (lawful_here b G R p l)
+      (fit_ask (takes_part n (seat_at b p)) 6 p _ refl refl
+      (fit_ask (is_in 1 (seat_at b p) || is_in 3 (seat_at b p)) 7 p _ refl refl (fit_ask (leb k 2) 9 p None refl refl tt))))
+
+  fit_polled : (p n k : ℕ) → p < seats_of b.ways → FitAnswer (polled_seat b.ways p n k (seat_at b p) b.cells).answer
+  unfolding polled_seat stepped
+  fit_polled p n k l =
+      fit_poll_after (poll_refusal b.ways p n k (seat_at b p) (length b.cells)) b.ways p k (seat_at b p) b.cells (fit_poll p n k l) (done b G R p l k)
+
+pub fit_related : (c : Call) (b : BoxState) (G : Ghost) → Related b G → FitAnswer (performed c b).answer
+unfolding performed
+fit_related (Apply p) b G R = fit_settled b (apply_refusal b p.0) _ _ (fit_apply b G R p.0)
+fit_related (Poll p n k) b G R =
+    fit_poll_settled (reach_refusal b.ways (length b.seats) (length b.cells) p.0) b p.0 (polled_seat b.ways p.0 n.0 k (seat_at b p.0) b.cells) (fit_reach b G R p.0) (λ e. fit_polled b G R p.0 n.0 k (inside b p.0 e))
+fit_related (GiveUp p n) b G R = fit_settled b (give_up_refusal b p.0 n.0) _ _ (fit_give_up b G R p.0 n.0)
+fit_related (Leave p n) b G R = fit_settled b (holder_refusal b p.0 n.0) _ _ (fit_holder b G R p.0 n.0)
+fit_related (Publish p n) b G R = fit_settled b (holder_refusal b p.0 n.0) _ _ (fit_holder b G R p.0 n.0)
