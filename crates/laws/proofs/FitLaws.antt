@@ -13,9 +13,9 @@ use Rattle.layout.specs.Meetings.{meeting}
 use Rattle.layout.specs.Refusals.{refusal}
 use Rattle.seats.specs.declared.seat.Seat.{Seat}
 use Rattle.seats.specs.declared.place.Place.{Place}
-use Rattle.seats.specs.declared.place.Place.TheVariants.{Rest, ClaimApply, RaceForRole, AwaitPromotion, RecheckCount, AwaitKing, MarkApply, CloseApply, AbortPawn, AbortQueen, AcceptGate, WithdrawApply, ReadRole, OpenAlone, HandOver, ReadApply, ClearApply, ScanApply, CollectPawns, RaceToClose, ClearSyncOne, ReadSyncTwo, ClearSyncTwo, StrikeOut, StrikeSelf, PromotePawn, ResetPawns, OpenGate, MarkPromoted}
+use Rattle.seats.specs.declared.place.Place.TheVariants.{AwaitKing, AcceptGate, ReadRole, ReadSyncTwo}
 use Rattle.seats.specs.Lawful.{lawful_open, lawful}
-use Rattle.seats.specs.Places.{state_number, place_number, within}
+use Rattle.seats.specs.Places.{state_number, place_number}
 use Rattle.steps.specs.declared.codes.Coin.{Coin}
 use Rattle.steps.specs.declared.cells.Cell.TheVariants.{SyncOne, SyncTwo, Role}
 use Rattle.steps.specs.Outcomes.{Outcome, word}
@@ -141,8 +141,6 @@ module _ (b : BoxState) (G : Ghost) (R : Related b G) (p : ℕ) (pl : p < seats_
   at_35 : place_number s.place ≡ 35 → Occupies b p h
   at_35 d =
       let c = leaves_at_35 w s law d in
-      let state = c.0 in
-      let top = c.2 in
       let kept : s.handed ≡ true → ⊥ = λ e. let q = (R.sound.handed p pl e).1 in omega arith in
       (leaving_low s c.0, leaving_high w (word_of b g (Role (record { 0 = i }))) (word_of b g SyncOne) s c.0 kept c.2)
 
@@ -182,9 +180,9 @@ module _ (b : BoxState) (G : Ghost) (R : Related b G) (p : ℕ) (pl : p < seats_
       let own = R.linked.owned p h pl A.low A.high o in
       let t = seat_at b (G.owner g i - 1) in
       let same : t ≡ s = ap (λ q. seat_at b q) (let u : G.owner g i - 1 ≡ p = omega arith in u) in
-      let inside : stand_at b G h g i ≡ still 2 =
+      let stood : stand_at b G h g i ≡ still 2 =
       shown-inside (G.owner g i) h t (λ z. omega arith) (λ z. let u = ap stands_at same in omega arith) in
-      role_released w h (heights_of w) (G.phase g) (c₀ A) i (stand_at b G h g i) (x₀ A) (here A).low (here A).high (here A).most (cells_ok A) ((at-gate A).gate.ways i (here A).way) (ap (λ v. v.stage) inside)
+      role_released w h (heights_of w) (G.phase g) (c₀ A) i (stand_at b G h g i) (x₀ A) (here A).low (here A).high (here A).most (cells_ok A) ((at-gate A).gate.ways i (here A).way) (ap (λ v. v.stage) stood)
 
   fits : Fits s.place (meeting w p h) s b.cells
   fits = record { waits = waits_fits; accepts = accepts_fits; releases = releases_fits; closed = closed_fits }
