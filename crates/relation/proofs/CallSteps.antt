@@ -216,6 +216,162 @@ keeps_leave b G p n x R e =
     let y = leaves_all b G p R pl s refl refl refl (departing-lawful b.ways s R.sound.sized.few (R.sound.law p pl) h) (inr h) (grind arith) (grind arith) (λ r v. grind arith) in
     (y.0, subst (λ (a : BoxState). Related a y.0) (sym A.left_after) y.1)
 
+-- who stands at a gate occupies its way there
+acts_at : (b : BoxState) (G : Ghost) (p : ℕ) → Related b G → p < seats_of b.ways → stands_at (seat_at b p) ≢ 0 → Acts b G p (seat_at b p).height
+acts_at b G p R pl n =
+    let s = seat_at b p in
+    let few = R.sound.sized.few in
+    let c = occupies_own b.ways (word_of b (gate_of b.ways p s.height) (Role (record { 0 = way_of b.ways p s.height }))) (word_of b (gate_of b.ways p s.height) SyncOne) s (R.sound.law p pl) n in
+    let below : s.height < b.ways = let d = c.2 in omega arith in
+    record { related = R; inside = pl; height = refl; low = c.1; high = below; occupant = inr (R.linked.owned p s.height pl c.1 below (c.3, c.4)) }
+
+-- who waits as a pawn, or is new at a gate, is no queen
+no_queen : (h H : ℕ) (f : Phase) (c : Cells) (i : ℕ) (v : Stand) (x : Marks) → v.stage ≡ 1 → 5 ≤ v.place → v.place ≤ 8 → WayOk h H f c i v x → x.role ≢ 2
+no_queen h H f c i v x a b d wo e = grind arith
+
+-- the places of a seat that has not given up, but 2
+climbs_past : (x : Place) → place_number x ≤ 16 → 2 ≤ place_number x → place_number x ≢ 2 → (place_number x ≡ 16) ⊎ ((place_number x ≡ 14) ⊎ ((5 ≤ place_number x) × (place_number x ≤ 8)))
+climbs_past x l m n = grind arith
+
+closing-lawful : (w : ℕ) (s : Seat) → lawful_open w s ≡ true → s.state ≡ Climbing → lawful_open w (goes_to (marked s) CloseApply) ≡ true
+closing-lawful w s law e = grind (arith, nat_tests)
+
+marked-lawful : (w : ℕ) (s : Seat) → lawful_open w s ≡ true → s.state ≡ Climbing → place_number s.place ≡ 16 → lawful_open w (marked s) ≡ true
+marked-lawful w s law e d = grind (arith, nat_tests)
+
+backed_lawful : (w : ℕ) (s : Seat) → lawful_open w s ≡ true → s.state ≡ Climbing → s.top ≢ 0 → lawful_open w (moved (marked s) Leaving ReadRole 1 s.top) ≡ true
+backed_lawful w s law e d = grind (arith, nat_tests)
+
+high_won : (w r v r' v' : ℕ) (s : Seat) → s.state ≡ Climbing → place_number s.place ≡ 16 → high_of w r v (marked s) ≡ high_of w r' v' s
+high_won w r v r' v' s e d = grind (arith, nat_tests)
+
+high_pawn : (w r v : ℕ) (s : Seat) → s.state ≡ Climbing → 5 ≤ place_number s.place → place_number s.place ≤ 8 → r ≢ 2 → high_of w r v (goes_to (marked s) CloseApply) ≡ high_of w r v s
+high_pawn w r v s e l m d = grind (arith, nat_tests)
+
+high_queen : (w r v : ℕ) (s : Seat) → s.state ≡ Climbing → place_number s.place ≡ 14 → high_of w r v (goes_to (marked s) CloseApply) ≡ high_of w r v s
+high_queen w r v s e d = grind (arith, nat_tests)
+
+own-low : (w : ℕ) (s : Seat) → lawful_open w s ≡ true → s.state ≡ Climbing → 1 ≤ s.height
+own-low w s law e = grind (arith, nat_tests)
+
+is_within : (n : ℕ) → within 5 14 n ≡ true → n ≢ 16
+is_within n e d = grind (arith, nat_tests)
+
+not_within : (n : ℕ) → within 5 14 n ≡ false → (n ≡ 14) ⊎ ((5 ≤ n) × (n ≤ 8)) → ⊥
+not_within n e d = grind (arith, nat_tests)
+
+climbs_is : (s : Seat) → state_number s.state ≡ 1 → s.state ≡ Climbing
+climbs_is s e = grind arith
+
+module _ (b : BoxState) (G : Ghost) (p : ℕ) (R : Related b G) (pl : p < seats_of b.ways) (state : (seat_at b p).state ≡ Climbing) where
+  abbrev own : Seat
+  own = seat_at b p
+
+  abbrev Gives : Seat → Type 0
+  Gives r = Next b p r b.cells
+
+  own_law : lawful_open b.ways own ≡ true
+  own_law = R.sound.law p pl
+
+  climbing : state_number own.state ≡ 1
+  climbing = ap state_number state
+
+  -- it has yet to enter a gate: it has nothing to withdraw
+  backs_away : place_number own.place ≡ 2 → own.top ≡ 0 → Gives away
+  backs_away d e =
+      let one = R.sound.next in
+      changes b G p away R pl
+      (record {
+        low = grind arith;
+        high = λ r v r' v'. grind (arith, nat_tests);
+        shows = shows_nothing own away (grind arith) refl;
+      })
+      (record {
+        law = refl;
+        handed = λ q. absurd (let y : ◌≡◌ {A = ℕ} 0 1 = cc in omega arith);
+        passage = λ q. absurd (q refl);
+        given = omega arith;
+        yet = λ k y. absurd (let q = y.0 in omega arith);
+        late = λ q. absurd (omega arith);
+      })
+
+  backs : place_number own.place ≡ 2 → Gives (backed_out (marked own))
+  backs d =
+      cond_both (eqb own.top 0) away (moved (marked own) Leaving ReadRole 1 own.top) Gives (λ e. backs_away d (eqb-true _ _ e))
+      (λ e.
+      leaves_all b G p R pl (marked own) refl refl refl (backed_lawful b.ways own own_law state (eqb-false _ _ e)) (inl climbing) (grind arith) (grind arith)
+      (λ r v. grind (arith, nat_tests)))
+
+  -- it has won the gate already
+  marks : place_number own.place ≡ 16 → Gives (marked own)
+  marks d =
+      changes b G p (marked own) R pl
+      (record {
+        low = refl;
+        high = λ r v r' v'. high_won b.ways r v r' v' own state d;
+        shows = λ o k n l. refl;
+      })
+      (record {
+        law = marked-lawful b.ways own own_law state d;
+        handed = R.sound.handed p pl;
+        passage = λ e. (e, refl);
+        given = R.sound.given p pl;
+        yet = λ k y. y;
+        late = λ e. absurd (omega arith);
+      })
+
+  -- it waits at a gate
+  closes_at : (place_number own.place ≡ 14) ⊎ ((5 ≤ place_number own.place) × (place_number own.place ≤ 8)) → Gives (goes_to (marked own) CloseApply)
+  closes_at d =
+      let past : place_number own.place ≢ 2 = λ e. elim d [ inl q ↦ omega arith | inr q ↦ let l = q.0 in omega arith ] in
+      let up : 1 ≤ own.height = (own-low b.ways own own_law state) in
+      let n = stands_climbing own state past up in
+      let A = acts_at b G p R pl n in
+      let h = own.height in
+      let w = b.ways in
+      let f = G.phase (gate_of w p h) in
+      let i = way_of w p h in
+      let v = stand_of own in
+      let stage : v.stage ≡ 1 = ap stage_in state in
+      let t = goes_to (marked own) CloseApply in
+      let early : place_number own.place ≤ 14 = elim d [ inl q ↦ omega arith | inr q ↦ let l = q.1 in omega arith ] in
+      go A (writes_nothing A) t f Nothing (λ j l o r. refl) (λ j l o. tt) n
+      (record { law = closing-lawful w own own_law state; state = refl; height = refl; handed = refl; passage = refl; within = λ e. omega arith; begun = λ e. omega arith; later = λ r. absurd (omega arith) })
+      (elim d [
+        | inl q ↦ high_queen w (x₀ A).role (c₀ A).sync_one own state q
+        | inr q ↦ high_pawn w (x₀ A).role (c₀ A).sync_one own state q.0 q.1 (no_queen h (heights_of w) f (c₀ A) i v (x₀ A) stage q.0 q.1 (way_ok A n))
+      ])
+      (λ r. absurd (omega arith))
+      (calmly A (c₀ A) v (to 19 v) (x₀ A) (elim d [
+        | inl q ↦ give_up_queen w h (heights_of w) f (c₀ A) i (here A) v (x₀ A) (cells_ok A) (way_ok A n) stage q
+        | inr q ↦ give_up_pawn w h (heights_of w) f (c₀ A) i (here A) v (x₀ A) (cells_ok A) (way_ok A n) stage q.0 q.1
+      ]))
+
+  gives : FreshAt b.ways own → Gives (given_up own)
+  gives F =
+      let x = place_number own.place in
+      cond_both (eqb x 2) _ _ Gives (λ e. backs (eqb-true _ _ e))
+      (λ e.
+      let y = climbs_past own.place F.upto F.from (eqb-false _ _ e) in
+      cond_both (within 5 14 x) _ _ Gives
+      (λ d. elim y [
+        | inl q ↦ absurd (is_within x d q)
+        | inr q ↦ closes_at q
+      ])
+      (λ d. elim y [
+        | inl q ↦ marks q
+        | inr q ↦ absurd (not_within x d q)
+      ]))
+
+pub keeps_give_up : (b : BoxState) (G : Ghost) (p n x : ℕ) → Related b G → (gave_up_outcome b p n).answer ≡ Ok x → (G' : Ghost) × Related (gave_up_outcome b p n).after G'
+keeps_give_up b G p n x R e =
+    let A = give_up_accepted b p n x e in
+    let pl = A.enters.reach.inside in
+    let s = seat_at b p in
+    let c = climbs_is s A.climbs in
+    let y = gives b G p R pl c (fresh_at b.ways s (parts_from_lawful b.ways s A.enters.law (λ z. let d = A.climbs in omega arith)) c A.unmarked) in
+    (y.0, subst (λ (a : BoxState). Related a y.0) (sym A.after) y.1)
+
 pub keeps_publish : (b : BoxState) (G : Ghost) (p n x : ℕ) → Related b G → (published b p n).answer ≡ Ok x → (G' : Ghost) × Related (published b p n).after G'
 keeps_publish b G p n x R e =
     (G, subst (λ (a : BoxState). Related a G) (sym (publish_accepted b p n x e).published-after) R)
