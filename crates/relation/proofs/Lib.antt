@@ -23,3 +23,4 @@ pub mod FreeSteps
 pub mod HandingOver
 pub mod ReleaseSteps
 pub mod StepLaws
+pub mod CallSteps
