@@ -19,3 +19,4 @@ pub mod Standing
 pub mod ClimbSteps
 pub mod AbortSteps
 pub mod CloseSteps
+pub mod Opening
