@@ -24,3 +24,4 @@ pub mod HandingOver
 pub mod ReleaseSteps
 pub mod StepLaws
 pub mod CallSteps
+pub mod Opening
