@@ -3,3 +3,4 @@ pub mod OpenLaws
 pub mod Phases
 pub mod TwoInside
 pub mod Moves
+pub mod ExclusiveLaws
