@@ -5,3 +5,4 @@ pub mod TwoInside
 pub mod Moves
 pub mod FitLaws
 pub mod LawOfRuns
+pub mod ExclusiveLaws
