@@ -20,3 +20,4 @@ pub mod ClimbSteps
 pub mod AbortSteps
 pub mod CloseSteps
 pub mod Opening
+pub mod Blanks
