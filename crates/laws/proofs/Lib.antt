@@ -4,3 +4,4 @@ pub mod Phases
 pub mod TwoInside
 pub mod Moves
 pub mod ExclusiveLaws
+pub mod ClearLaws
