@@ -6,3 +6,4 @@ pub mod Moves
 pub mod FitLaws
 pub mod LawOfRuns
 pub mod ExclusiveLaws
+pub mod ClearLaws

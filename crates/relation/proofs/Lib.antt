@@ -25,3 +25,4 @@ pub mod ReleaseSteps
 pub mod StepLaws
 pub mod CallSteps
 pub mod Opening
+pub mod Blanks

@@ -1,5 +1,6 @@
 -- The box after an opening. Assumes nothing.
 --     opened_ghost    every gate is idle, and nobody occupies a way
+--     opened_apply    every Apply is 0
 --     opened_related  the relation holds
 use Rattle.std.proofs.Common.{◌≡◌, ℕ, zero, suc, ◌+◌, ◌*◌, ◌^◌, ◌<◌, ◌≤◌, true, List, length, drop, replicate, sym, refl, ap, ◌∙◌, subst, mul-le-mul_right, arith}
 use Rattle.std.proofs.lemmas.List.{length-append, length-replicate, get_or_append_left, get_or-replicate}
@@ -53,22 +54,24 @@ module _ (w : ℕ) (ts : List Seat) (ws : List ℕ) (few : 2 ≤ w) (most : w �
   none_high : (p : ℕ) → p < seats_of w → high_at b p ≡ 0
   none_high p l = grind (arith, all_away p l)
 
+  pub opened_apply : (g j : ℕ) → g < gates_of w → j < w → word_of b g (Apply (record { 0 = j })) ≡ 0
+  opened_apply g j l m = gate_zero g (apply_cell j) l (omega arith)
+
   gate-idle : (k g : ℕ) → g < gates_of w → GateAt b opened_ghost k g
   gate-idle k g l =
       let count = gate_zero g count_cell l (omega arith) in
       let one = gate_zero g sync_one l (omega arith) in
       let two = gate_zero g sync_two l (omega arith) in
       let pawns = gate_zero g pawns_cell l (omega arith) in
-      let apply : (j : ℕ) → j < w → word_of b g (Apply (record { 0 = j })) ≡ 0 = λ j m. gate_zero g (apply_cell j) l (omega arith) in
       record {
         gate = record {
           cells = (count, one, two);
-          ways = λ j m. idle-way w k (heights_of w) (cells_at b g) j _ _ _ (apply j m) (ap (λ x. lane x j) pawns ∙ lane_zero j);
+          ways = λ j m. idle-way w k (heights_of w) (cells_at b g) j _ _ _ (opened_apply g j l m) (ap (λ x. lane x j) pawns ∙ lane_zero j);
           noted = λ a j m n o. absurd (omega arith);
           fresh = λ a j m n o. absurd (omega arith);
         };
         pawns = subst (λ (x : ℕ). x < 2 ^ 64) (sym pawns) (omega arith);
-        applies = λ j m. subst (λ (x : ℕ). x < 65536) (sym (apply j m)) (omega arith);
+        applies = λ j m. subst (λ (x : ℕ). x < 65536) (sym (opened_apply g j l m)) (omega arith);
       }
 
   opened_sound : Sound b
