@@ -2,7 +2,7 @@
 -- Assumes nothing.
 --     keeps_performed  a call leaves a related box
 --     law_related      the law of runs from a related box; law_opened, after an opening
-use Rattle.std.proofs.Common.{◌≡◌, ℕ, ◌≤◌, ◌<◌, Bool, true, false, cond, List, [], ◌∷◌, length, Some, None, Ok, Err, Option, Result, refl, sym, ap, subst, ltb, leb, ◌||◌, arith}
+use Rattle.std.proofs.Common.{◌≡◌, ℕ, ◌≤◌, Bool, true, false, cond, List, [], ◌∷◌, length, Some, None, Ok, Err, Result, refl, sym, subst, ltb, leb, ◌||◌, arith}
 use Rattle.layout.specs.declared.fault.Refusal.{Refusal}
 use Rattle.layout.specs.Boxes.{ways_refusal}
 use Rattle.layout.specs.Gates.{cells_of, seats_of}
@@ -18,15 +18,17 @@ use Rattle.relation.proofs.Views.{Ghost}
 use Rattle.relation.proofs.Relation.{Related}
 use Rattle.relation.proofs.StepLaws.{keeps_poll}
 use Rattle.relation.proofs.CallSteps.{keeps_apply, keeps_leave, keeps_give_up, keeps_publish}
+use Rattle.relation.proofs.Blanks.{Blanks, opened_blanks}
 use Rattle.relation.proofs.Opening.{opened_related}
 use Rattle.laws.specs.declared.call.Call.{Call}
 use Rattle.laws.specs.declared.call.Call.TheVariants.{Apply, Poll, GiveUp, Leave, Publish}
-use Rattle.laws.specs.Runs.{performed, performed_open}
-use Rattle.laws.specs.Law.{Exclusive, ExclusiveEach, AllFit, FitAnswer, OpenEach, Prompt, Law}
+use Rattle.laws.specs.Runs.{performed}
+use Rattle.laws.specs.Law.{ExclusiveEach, AllFit, OpenEach, Law}
 use Rattle.laws.proofs.Prompt.{refused_same, prompt_runs}
 use Rattle.laws.proofs.FitLaws.{fit_related}
 use Rattle.laws.proofs.ExclusiveLaws.{exclusive_related}
-use Rattle.laws.proofs.OpenLaws.{EmptyClear, open_next}
+use Rattle.laws.proofs.OpenLaws.{open_next}
+use Rattle.laws.proofs.ClearLaws.{clear_related, blanks_performed}
 
 -- what an accepted opening says
 record OpeningOf (w n k : ℕ) : Type 0 where
@@ -49,10 +51,6 @@ opening_accepted w n k e =
     let a₃ = asked (leb (seats_of w) n) (refusal 3 0) None a₂.1 in
     let v = ways_fit w a.0 in
     record { few = v.0; most = v.1; cells = leb-true _ _ a₂.0; seats = leb-true _ _ a₃.0 }
-
--- until it is proved
-clear_related : (b : BoxState) (G : Ghost) → Related b G → EmptyClear b
-clear_related b G R = ?
 
 accepted : (c : Call) (b : BoxState) (G : Ghost) (x : ℕ) → Related b G → (performed c b).answer ≡ Ok x → (F : Ghost) × Related (performed c b).after F
 unfolding performed
@@ -78,23 +76,23 @@ all_exclusive [] b G R = exclusive_related b G R
 all_exclusive (c ∷ cs) b G R =
     let n = keeps_performed c b G R in (exclusive_related b G R, all_exclusive cs (performed c b).after n.0 n.1)
 
-all_open : (cs : List Call) (b : BoxState) (G : Ghost) → Related b G → OpenEach cs b
-all_open [] b G R = open_next [] b R.sound.sized.few R.sound.sized.most (clear_related b G R)
-all_open (c ∷ cs) b G R =
+all_open : (cs : List Call) (b : BoxState) (G : Ghost) → Related b G → Blanks b → OpenEach cs b
+all_open [] b G R z = open_next [] b R.sound.sized.few R.sound.sized.most (clear_related b G R z)
+all_open (c ∷ cs) b G R z =
     let n = keeps_performed c b G R in
-    (open_next (c ∷ cs) b R.sound.sized.few R.sound.sized.most (clear_related b G R), all_open cs (performed c b).after n.0 n.1)
+    (open_next (c ∷ cs) b R.sound.sized.few R.sound.sized.most (clear_related b G R z), all_open cs (performed c b).after n.0 n.1 (blanks_performed c b z))
 
-pub law_related : (cs : List Call) (b : BoxState) (G : Ghost) → Related b G → Law cs b
-law_related cs b G R =
+pub law_related : (cs : List Call) (b : BoxState) (G : Ghost) → Related b G → Blanks b → Law cs b
+law_related cs b G R z =
     record {
       exclusive = all_exclusive cs b G R;
       fit = all_fit cs b G R;
       prompt = prompt_runs cs b R.sound.sized.few R.sound.sized.most;
-      opens = all_open cs b G R;
+      opens = all_open cs b G R z;
     }
 
 pub law_opened : (w : ℕ) (ts : List Seat) (ws : List ℕ) (cs : List Call) → open_refusal w (length ts) (length ws) ≡ None → Law cs (cleared w ts ws)
 law_opened w ts ws cs e =
     let o = opening_accepted w (length ts) (length ws) e in
     let r = opened_related w ts ws o.few o.most o.cells o.seats in
-    law_related cs (cleared w ts ws) r.0 r.1
+    law_related cs (cleared w ts ws) r.0 r.1 (opened_blanks w ts ws o.few o.most o.cells o.seats)

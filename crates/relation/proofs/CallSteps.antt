@@ -4,7 +4,7 @@
 --     keeps_apply, keeps_give_up, keeps_leave, keeps_publish   for each call, by what it answers
 use Rattle.std.proofs.Common.{◌≡◌, ℕ, ◌+◌, ◌-◌, ◌<◌, ◌≤◌, cond, eqb, true, false, ◌≢◌, ◌⊎◌, Ok, sym, refl, ap, ◌∙◌, subst, inl, inr, arith}
 use native.Mathlib.Decide.{ℕ_discrete}
-use Rattle.std.proofs.lemmas.Bool.{cond_both, and_parts, eqb-true, eqb-false, leb-true, false_from_ne_true}
+use Rattle.std.proofs.lemmas.Bool.{cond_both, eqb-true, eqb-false, false_from_ne_true}
 use Rattle.std.proofs.lemmas.Bool.Decides.{nat_tests}
 use Rattle.layout.specs.Gates.{heights_of, seats_of, gate_of, way_of}
 use Rattle.seats.specs.declared.seat.Seat.{Seat}
@@ -20,10 +20,10 @@ use Rattle.lock.specs.Calls.{applied, gave_up_outcome, left, published, climber,
 use Rattle.gate.proofs.Phases.{Phase, Stand, Marks, Cells, WayOk}
 use Rattle.gate.proofs.Gates.{Nothing, to, gate_same}
 use Rattle.gate.proofs.Moves.{give_up_queen, give_up_pawn}
-use Rattle.relation.proofs.LawfulLaws.{parts_from_lawful, FreshAt, fresh_at, holding_top}
+use Rattle.relation.proofs.LawfulLaws.{parts_from_lawful, FreshAt, fresh_at}
 use Rattle.relation.proofs.Accepted.{apply_accepted, give_up_accepted, leave_accepted, publish_accepted}
 use Rattle.relation.proofs.Views.{word_of, cells_at, marks_at, Ghost, stage_in, stands_at, stand_of, shown, stand_at, low_of, high_of, high_at, Occupies}
-use Rattle.relation.proofs.Relation.{YetAt, Late, Sized, HandedFits, Sound, Linked, GateAt, Related}
+use Rattle.relation.proofs.Relation.{YetAt, Late, Sized, HandedFits, Sound, Related}
 use Rattle.relation.proofs.Frame.{SeatChange, by_seat, sized-change, sound-change}
 use Rattle.relation.proofs.Links.{shown-nobody, shown-inside}
 use Rattle.relation.proofs.Acting.{Acts, occupies_own}
@@ -166,7 +166,7 @@ keeps_apply b G p x R e =
     let pl = A.enters.reach.inside in (
       G,
       subst (λ (a : BoxState). Related a G) (sym A.after)
-      (still_related b p (climber b.next) (b.next + 1) G R pl (away_quiet b.ways b.next (seat_at b p) (R.sound.law p pl) A.away) (applied-sound b p R.sound pl A.number)),
+          (still_related b p (climber b.next) (b.next + 1) G R pl (away_quiet b.ways b.next (seat_at b p) (R.sound.law p pl) A.away) (applied-sound b p R.sound pl A.number)),
     )
 
 -- a holder or a climber has not handed over

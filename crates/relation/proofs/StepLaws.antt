@@ -1,7 +1,7 @@
 -- Every accepted poll keeps the relation. Assumes nothing.
 --     keeps_step  the step of the seat's place
 --     keeps_poll  the poll, as it was accepted
-use Rattle.std.proofs.Common.{◌≡◌, ℕ, ◌+◌, ◌%◌, ◌<◌, ◌≤◌, true, ◌≢◌, ◌⊎◌, Ok, sym, refl, ap, ◌∙◌, subst, inl, inr, arith}
+use Rattle.std.proofs.Common.{◌≡◌, ℕ, ◌<◌, ◌≤◌, true, ◌≢◌, ◌⊎◌, Ok, sym, refl, ap, subst, inl, inr, arith}
 use native.Mathlib.Decide.{ℕ_discrete}
 use Rattle.std.proofs.lemmas.Bool.{cond_both, eqb-true}
 use Rattle.std.proofs.lemmas.Bool.Decides.{nat_tests}
@@ -11,15 +11,15 @@ use Rattle.seats.specs.declared.seat.Seat.{Seat}
 use Rattle.seats.specs.declared.state.State.TheVariants.{Climbing}
 use Rattle.seats.specs.declared.place.Place.{Place}
 use Rattle.seats.specs.declared.place.Place.TheVariants.{Rest, ClaimApply, RaceForRole, AwaitPromotion, RecheckCount, AwaitKing, MarkApply, CloseApply, AbortPawn, AbortQueen, AcceptGate, WithdrawApply, ReadRole, OpenAlone, HandOver, ReadApply, ClearApply, ScanApply, CollectPawns, RaceToClose, ClearSyncOne, ReadSyncTwo, ClearSyncTwo, StrikeOut, StrikeSelf, PromotePawn, ResetPawns, OpenGate, MarkPromoted}
-use Rattle.seats.specs.Lawful.{lawful, lawful_open}
+use Rattle.seats.specs.Lawful.{lawful_open}
 use Rattle.seats.specs.Places.{state_number, place_number}
 use Rattle.steps.specs.declared.codes.Coin.{Coin}
 use Rattle.steps.specs.declared.cells.Cell.TheVariants.{Apply}
 use Rattle.steps.specs.Polls.{step_of, coin_of}
-use Rattle.lock.specs.States.{BoxState, seat_at, with_seat}
+use Rattle.lock.specs.States.{BoxState, seat_at}
 use Rattle.lock.specs.Calls.{polled}
 use Rattle.relation.proofs.Geometry.{gate_inside}
-use Rattle.relation.proofs.Views.{word_of, Ghost, stands_at, stand_at, high_of, high_at, low_of, Occupies}
+use Rattle.relation.proofs.Views.{word_of, Ghost, stands_at, stand_at, high_of, low_of, Occupies}
 use Rattle.relation.proofs.Relation.{Related}
 use Rattle.relation.proofs.Accepted.{PolledBy, poll_accepted, poll_step}
 use Rattle.relation.proofs.LawfulSteps.{lawful-step}
