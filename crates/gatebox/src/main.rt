@@ -15,7 +15,7 @@ fn main(rt: HostRuntime) -> anyhow::Result<()> {
     run(&rt)
 }
 
-// Opens the box as `sessions` does: a crate for these nine lines would be longer than they are.
+// Opens the box as `sessions` does: a crate for these ten lines would be longer than they are.
 fn run(rt: &HostRuntime) -> anyhow::Result<()> {
     let mut cells = vec![in rt.alloc(); 0; 252]?;
     let mut table = vec![in rt.alloc(); Seat::away(); 64]?;
@@ -57,7 +57,7 @@ fn reply<S: Store>(
     replies: &mut [u8],
 ) -> anyhow::Result<bool> {
     let mut place = Cursor { at: 0 };
-    // a count here too: no clause of `answer_all` says that it comes further when it stops for want of room
+    // a count here too: of a `loop` with a measure the goals outgrew the memory of the check
     for _ in 0..u64::MAX {
         let progress = answer_all(lock, &mut place, input.as_slice(), ended, replies);
         rt.stdout().write_all(&replies[..progress.written])?;

@@ -3,3 +3,7 @@ pub mod OpenLaws
 pub mod Phases
 pub mod TwoInside
 pub mod Moves
+pub mod FitLaws
+pub mod LawOfRuns
+pub mod ExclusiveLaws
+pub mod ClearLaws

@@ -1,6 +1,7 @@
 -- The law of runs: what holds after the opening of a box and after each call of any list of calls. Assumes nothing.
 --     Keeps b p g             seat p keeps gate g
 --     Exclusive b             no two seats keep a gate in common
+--     ExclusiveEach cs b      nor after any of the calls cs
 --     accepts c b             the call c is accepted by the box b
 --     AllFit cs b             none of the calls cs is refused as unlawful (5) or unfit (10)
 --     polls_until out p cs b  how many polls of seat p are accepted until it is out, the last one counted too
@@ -29,6 +30,10 @@ pub record Keeps (b : BoxState) (p g : ℕ) : Type 0 where
 
 abbrev pub Exclusive : BoxState → Type 0
 Exclusive b = (p q g : ℕ) → p < seats_of b.ways → q < seats_of b.ways → p ≢ q → Keeps b p g → Keeps b q g → ⊥
+
+abbrev pub ExclusiveEach : List Call → BoxState → Type 0
+ExclusiveEach [] b = Exclusive b
+ExclusiveEach (c ∷ cs) b = Exclusive b × ExclusiveEach cs (performed c b).after
 
 abbrev pub accepts : Call → BoxState → Bool
 accepts c b = is_ok (performed c b).answer
@@ -115,7 +120,7 @@ OpenEach [] b = OpenNext [] b
 OpenEach (c ∷ cs) b = OpenNext (c ∷ cs) b × OpenEach cs (performed c b).after
 
 pub record Law (cs : List Call) (b : BoxState) : Type 0 where
-  pub exclusive : Exclusive (run cs b)
+  pub exclusive : ExclusiveEach cs b
   pub fit : AllFit cs b
   pub prompt : Prompt cs b
   pub opens : OpenEach cs b

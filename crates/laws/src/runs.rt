@@ -1,4 +1,6 @@
-ghost use Rattle.std.specs.Prelude.{◌≡◌, length, MatchResult};
+ghost use Rattle.std.specs.Prelude.{◌≡◌, length, MatchResult, OnOk};
+ghost use Rattle.lock.specs.Calls.{cleared};
+ghost use Rattle.laws.specs.Law.{Law};
 ghost use Rattle.laws.specs.Runs.{Performs, Unperformed};
 ghost use Rattle.laws.specs.declared.runs.PerformFault.TheVariants.{Memory, Box};
 
@@ -35,7 +37,7 @@ impl From<AllocError> for PerformFault {
     }
 }
 
-// Opens a box, makes the calls one after the other, and answers what each of them got.
+// Opens a box, makes the calls one after the other, and answers what each of them got. The law of runs holds of them.
 pub fn perform<S: Store>(
     heap: Global,
     ways: u8,
@@ -43,7 +45,8 @@ pub fn perform<S: Store>(
     table: &mut [Seat],
     calls: &[Call],
 ) -> Result<Vec<Got>, PerformFault>
-    ensures { MatchResult result (λ v. Performs ways table.old (S.words store.old) calls.now v.items table.new (S.words store.new)) (λ e. Unperformed ways table.old (S.words store.old) e table.new (S.words store.new)) }
+    ensures performs { MatchResult result (λ v. Performs ways table.old (S.words store.old) calls.now v.items table.new (S.words store.new)) (λ e. Unperformed ways table.old (S.words store.old) e table.new (S.words store.new)) }
+    ensures law { OnOk result (Law calls.now (cleared ways table.old (S.words store.old))) }
 {
     let mut got = Vec::with_capacity(heap, calls.len())?;
     let mut record = open(ways, store, table)?;

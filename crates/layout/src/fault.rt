@@ -16,7 +16,7 @@ pub struct Refusal {
 }
 
 impl Refusal {
-    // A refusal that names no height and no cell.
+    // A refusal that names no height and no cell: both are 0, as a reply has them.
     pub fn plain(number: u8, seat: SeatId) -> Refusal
         ensures { result ≡ refusal number seat.0 }
     {

@@ -32,6 +32,7 @@ pub struct LineRefusal {
 
 impl LineFault {
     // The refusal as it is told in reply to a message of that kind. Where the kind is not known, it is told as 0.
+    // The kind is a byte, since any caller may name one.
     pub fn refusal(self, kind: u8) -> LineRefusal
         ensures { result ≡ told_to kind self }
     {

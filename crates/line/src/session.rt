@@ -34,6 +34,7 @@ pub fn answer<S: Store>(
     ensures answers { Answers (answered (state_in S.words lock.old) place.old.at input.now reply.old) result (state_in S.words lock.new) place.new.at reply.new }
     ensures loans { SameLoans lock.old lock.new }
 {
+    // no `ok_or`: of what is lent by an `Option` a proof knows nothing after it
     let Some(room) = reply.first_chunk_mut::<LONGEST>() else {
         return Err(LineFault::ReplyRoom);
     };

@@ -27,9 +27,7 @@ impl<S: Store> Lock<'_, S> {
         if found.state != State::Away {
             return Err(BoxFault::WrongState(seat));
         }
-        let Some(passage) = self.record.issue() else {
-            return Err(BoxFault::Spent(seat));
-        };
+        let passage = self.record.issue().ok_or(BoxFault::Spent(seat))?;
         self.table[usize::from(seat.0)] = begin(passage);
         Ok(passage)
     }
@@ -106,6 +104,7 @@ fn abandon(seat: Seat) -> Seat
         gave_up: true,
         ..seat
     };
+    // by number, since a group of places is a range of the algorithm's lines
     match seat.place.number() {
         2 => seat.backs_out(),
         5..=14 => Seat {

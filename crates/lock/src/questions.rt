@@ -38,7 +38,8 @@ impl<S: Store> Lock<'_, S> {
         Ok(found)
     }
 
-    // Questions 2 to 6: the seat takes part, and the passage is its own. Answers a copy of its record.
+    // Questions 2 to 6: the seat takes part, and the passage is its own. Answers a copy of its record. A poll of one seat
+    // asks the same by itself, so that it needs no lock.
     pub(crate) fn enter_own(&self, seat: SeatId, passage: Passage) -> Result<Seat, BoxFault>
         ensures { Entered (own_refusal (state_in S.words self.now) seat.0 passage.0) (state_in S.words self.now) seat.0 result }
     {

@@ -81,9 +81,11 @@ fn polls<S: Store>(
     until: State,
 ) -> anyhow::Result<()> {
     for _ in 0..MOST_POLLS {
-        let Some(before) = lock.table.get(usize::from(seat.0)).copied() else {
-            return Err(anyhow!("no such seat"));
-        };
+        let before = lock
+            .table
+            .get(usize::from(seat.0))
+            .copied()
+            .ok_or_else(|| anyhow!("no such seat"))?;
         let place = before.place.number();
         let height = before.height;
         let state = lock
@@ -110,12 +112,11 @@ fn cells<S: Store>(
     seat: SeatId,
     height: u8,
 ) -> anyhow::Result<()> {
-    let Some(path) = lock.record.path(seat) else {
-        return Err(anyhow!("no such seat"));
-    };
-    let Some(at) = path.meets(height) else {
-        return Err(anyhow!("no such height"));
-    };
+    let path = lock
+        .record
+        .path(seat)
+        .ok_or_else(|| anyhow!("no such seat"))?;
+    let at = path.meets(height).ok_or_else(|| anyhow!("no such height"))?;
     let base = at.base;
     let ways = Ways::try_from(at.ways).map_err(|_| anyhow!("no such ways"))?;
     let size = ways.cells_per_gate();

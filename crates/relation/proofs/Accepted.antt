@@ -1,4 +1,5 @@
 -- What the acceptance of a call says. Assumes nothing.
+--     asked, both_none  a question that was answered by yes, and what is asked next
 --     Entered b p     questions 2 to 5 were answered by yes
 --     apply_accepted, give_up_accepted, leave_accepted, publish_accepted, poll_accepted
 --                     for each call, by a record of what it asked and of the box afterwards
@@ -18,11 +19,11 @@ use Rattle.lock.specs.Questions.{or_else, reach_refusal, enter_refusal, own_refu
 use Rattle.lock.specs.Calls.{seat_settled, poll_settled, polled, applied, gave_up_outcome, left, published, climber, given_up, departing}
 
 -- a question that was asked, and the rest
-asked : (q : Bool) (f : Refusal) (rest : Option Refusal) → ask q f rest ≡ None → (q ≡ true) × (rest ≡ None)
+pub asked : (q : Bool) (f : Refusal) (rest : Option Refusal) → ask q f rest ≡ None → (q ≡ true) × (rest ≡ None)
 asked true f rest e = (refl, e)
 asked false f rest e = let z : ◌≡◌ {A = ℕ} 0 1 = cc in absurd (omega arith)
 
-both_none : (f g : Option Refusal) → or_else f g ≡ None → (f ≡ None) × (g ≡ None)
+pub both_none : (f g : Option Refusal) → or_else f g ≡ None → (f ≡ None) × (g ≡ None)
 both_none None g e = (refl, e)
 both_none (Some f) g e = let z : ◌≡◌ {A = ℕ} 0 1 = cc in absurd (omega arith)
 

@@ -19,4 +19,10 @@ pub mod Standing
 pub mod ClimbSteps
 pub mod AbortSteps
 pub mod CloseSteps
+pub mod FreeSteps
+pub mod HandingOver
+pub mod ReleaseSteps
+pub mod StepLaws
 pub mod CallSteps
+pub mod Opening
+pub mod Blanks

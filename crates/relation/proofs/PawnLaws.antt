@@ -1,6 +1,7 @@
 -- The pairs of a pawn word after each operation on it. Assumes nothing.
 --     lanes-packed                      four pairs of 16 bits, packed and taken apart again
 --     lanes-with                        another pair for one way leaves the pairs of the others
+--     lane-fits                         a pair has 16 bits
 --     lane-same, lane-other, with_fits  the same, way by way; and the word still has 64 bits
 --     lanes-collect, collect_fits       after a collect
 use Rattle.std.proofs.Common.{◌≡◌, ℕ, zero, suc, ◌+◌, ◌*◌, ◌/◌, ◌%◌, ◌^◌, ◌<◌, ◌≤◌, ◌≢◌, List, [], ◌∷◌, get_or, set, refl, ap, ◌∙◌, arith}
@@ -55,7 +56,7 @@ with_fits w (suc (suc zero)) x f l h = packed-fits (w % 65536) (w / 65536 % 6553
 with_fits w (suc (suc (suc zero))) x f l h = packed-fits (w % 65536) (w / 65536 % 65536) (w / 4294967296 % 65536) x (omega arith) (omega arith) (omega arith) h
 with_fits w (suc (suc (suc (suc i)))) x f l h = absurd (omega arith)
 
-lane-fits : (w i : ℕ) → w < 2 ^ 64 → lane w i < 65536
+pub lane-fits : (w i : ℕ) → w < 2 ^ 64 → lane w i < 65536
 lane-fits w zero f = omega arith
 lane-fits w (suc zero) f = omega arith
 lane-fits w (suc (suc zero)) f = omega arith

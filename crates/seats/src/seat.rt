@@ -17,7 +17,7 @@ pub struct Seat {
     // the height up to which it wins with its next capture
     pub aim: u8,
     pub passage: Passage,
-    // it has given up
+    // it has given up: a mark, and no case of the state, since it goes on through several
     pub gave_up: bool,
     // it has handed the queen its gates from this height up
     pub handed: bool,

@@ -11,7 +11,7 @@ use layout::{BoxFault, Meeting, Passage, WayId};
 use store::Store;
 
 // A gate as a seat meets it, in a store that has all its cells. The steps of the places are its methods. The seat is
-// lent beside it and is no field, since a change of the pawns reads the seat while it borrows the gate.
+// lent beside it and is no field: the store's loan is the gate's, and each step says of the two apart what it leaves.
 #[derive(Drop)]
 pub struct Gate<'a, S: Store> {
     store: &'a mut S,

@@ -44,9 +44,9 @@ fn due(
     ensures { MatchResult result (λ d. Due path.ways.number path.seat.0 passage.0 coin seat.now size d.at d.coin) (λ e. poll_refusal path.ways.number path.seat.0 passage.0 coin seat.now size ≡ Some (refusal_of e)) }
 {
     let coin = ask(size, seat, path, passage, coin)?;
-    let Some(at) = path.meets(seat.height) else {
-        return Err(BoxFault::Unlawful(path.seat()));
-    };
+    let at = path
+        .meets(seat.height)
+        .ok_or(BoxFault::Unlawful(path.seat()))?;
     Ok(DuePoll { at, coin })
 }
 

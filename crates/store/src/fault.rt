@@ -9,7 +9,7 @@ pub enum StoreFault {
 }
 
 impl StoreFault {
-    // The number of the refusal. A method and no `From`: it ends chains, and is passed by its name.
+    // The number of the refusal. A method and no `From`: its name says which number, and callers use it.
     pub fn number(self) -> u8
         ensures { result ≡ store_number self }
     {
