@@ -1,7 +1,9 @@
 -- The calls that are no poll keep the relation. Assumes nothing.
---     renewed, Quiet  a box with another record for one seat and another next number; that record shows what it showed
---     still_related   the box is related to the same ghost, if it is sound
---     keeps_apply, keeps_give_up, keeps_leave, keeps_publish   for each call, by what it answers
+--     renewed        a box with another record for one seat, and another next number
+--     Alike          the record shows what the old one showed, and occupies the same gates
+--     still_related  then the box is related to the same ghost, if it is sound
+--     acts_at        who stands at a gate occupies its way there
+--     keeps_apply, keeps_give_up, keeps_leave, keeps_publish   each call, where it is not refused
 use Rattle.std.proofs.Common.{◌≡◌, ℕ, ◌+◌, ◌-◌, ◌<◌, ◌≤◌, cond, eqb, true, false, ◌≢◌, ◌⊎◌, Ok, sym, refl, ap, ◌∙◌, subst, inl, inr, arith}
 use native.Mathlib.Decide.{ℕ_discrete}
 use Rattle.std.proofs.lemmas.Bool.{cond_both, eqb-true, eqb-false, false_from_ne_true}
@@ -32,7 +34,7 @@ use Rattle.relation.proofs.Writings.{c₀, x₀, here, cells_ok, way_ok, writes_
 use Rattle.relation.proofs.Standing.{stands_climbing}
 
 -- a record t in the place of s: it shows the same at every gate, and occupies the same gates, whatever the cells hold
-pub record Quiet (w : ℕ) (s t : Seat) : Type 0 where
+pub record Alike (w : ℕ) (s t : Seat) : Type 0 where
   pub low : low_of t ≡ low_of s
   pub high : (r v r' v' : ℕ) → high_of w r v t ≡ high_of w r' v' s
   pub shows : (o k : ℕ) → o ≢ 0 → 1 ≤ k → shown o k t ≡ shown o k s
@@ -45,7 +47,7 @@ module _ (b : BoxState) (p : ℕ) (t : Seat) (n : ℕ) where
   abbrev pub renewed : BoxState
   renewed = record { ways = b.ways; next = n; seats = (with_seat b p t b.cells).seats; cells = b.cells }
 
-  module _ (G : Ghost) (R : Related b G) (pl : p < seats_of b.ways) (c : Quiet b.ways (seat_at b p) t) where
+  module _ (G : Ghost) (R : Related b G) (pl : p < seats_of b.ways) (c : Alike b.ways (seat_at b p) t) where
     abbrev w : ℕ
     w = b.ways
 
@@ -100,7 +102,7 @@ module _ (b : BoxState) (p : ℕ) (t : Seat) (n : ℕ) where
         }
 
 -- a change of one record, with the same next number
-changes : (b : BoxState) (G : Ghost) (p : ℕ) (t : Seat) → Related b G → p < seats_of b.ways → Quiet b.ways (seat_at b p) t → SeatChange b p t → Next b p t b.cells
+changes : (b : BoxState) (G : Ghost) (p : ℕ) (t : Seat) → Related b G → p < seats_of b.ways → Alike b.ways (seat_at b p) t → SeatChange b p t → Next b p t b.cells
 changes b G p t R pl q c =
     (G, still_related b p t b.next G R pl q (sound-change b p t b.cells pl R.sound.sized R.sound c refl))
 
@@ -152,8 +154,8 @@ module _ (b : BoxState) (p : ℕ) (s : Sound b) (pl : p < seats_of b.ways) (few 
             });
       }
 
-away_quiet : (w n : ℕ) (s : Seat) → lawful_open w s ≡ true → state_number s.state ≡ 0 → Quiet w s (climber n)
-away_quiet w n s law e =
+away_alike : (w n : ℕ) (s : Seat) → lawful_open w s ≡ true → state_number s.state ≡ 0 → Alike w s (climber n)
+away_alike w n s law e =
     record {
       low = grind arith;
       high = λ r v r' v'. grind arith;
@@ -166,7 +168,7 @@ keeps_apply b G p x R e =
     let pl = A.enters.reach.inside in (
       G,
       subst (λ (a : BoxState). Related a G) (sym A.after)
-          (still_related b p (climber b.next) (b.next + 1) G R pl (away_quiet b.ways b.next (seat_at b p) (R.sound.law p pl) A.away) (applied-sound b p R.sound pl A.number)),
+          (still_related b p (climber b.next) (b.next + 1) G R pl (away_alike b.ways b.next (seat_at b p) (R.sound.law p pl) A.away) (applied-sound b p R.sound pl A.number)),
     )
 
 -- a holder or a climber has not handed over
@@ -217,7 +219,7 @@ keeps_leave b G p n x R e =
     (y.0, subst (λ (a : BoxState). Related a y.0) (sym A.left_after) y.1)
 
 -- who stands at a gate occupies its way there
-acts_at : (b : BoxState) (G : Ghost) (p : ℕ) → Related b G → p < seats_of b.ways → stands_at (seat_at b p) ≢ 0 → Acts b G p (seat_at b p).height
+pub acts_at : (b : BoxState) (G : Ghost) (p : ℕ) → Related b G → p < seats_of b.ways → stands_at (seat_at b p) ≢ 0 → Acts b G p (seat_at b p).height
 acts_at b G p R pl n =
     let s = seat_at b p in
     let few = R.sound.sized.few in
@@ -251,9 +253,6 @@ high_pawn w r v s e l m d = grind (arith, nat_tests)
 high_queen : (w r v : ℕ) (s : Seat) → s.state ≡ Climbing → place_number s.place ≡ 14 → high_of w r v (goes_to (marked s) CloseApply) ≡ high_of w r v s
 high_queen w r v s e d = grind (arith, nat_tests)
 
-own-low : (w : ℕ) (s : Seat) → lawful_open w s ≡ true → s.state ≡ Climbing → 1 ≤ s.height
-own-low w s law e = grind (arith, nat_tests)
-
 is_within : (n : ℕ) → within 5 14 n ≡ true → n ≢ 16
 is_within n e d = grind (arith, nat_tests)
 
@@ -263,7 +262,7 @@ not_within n e d = grind (arith, nat_tests)
 climbs_is : (s : Seat) → state_number s.state ≡ 1 → s.state ≡ Climbing
 climbs_is s e = grind arith
 
-module _ (b : BoxState) (G : Ghost) (p : ℕ) (R : Related b G) (pl : p < seats_of b.ways) (state : (seat_at b p).state ≡ Climbing) where
+module _ (b : BoxState) (G : Ghost) (p : ℕ) (R : Related b G) (pl : p < seats_of b.ways) (F : FreshAt b.ways (seat_at b p)) where
   abbrev own : Seat
   own = seat_at b p
 
@@ -272,6 +271,9 @@ module _ (b : BoxState) (G : Ghost) (p : ℕ) (R : Related b G) (pl : p < seats_
 
   own_law : lawful_open b.ways own ≡ true
   own_law = R.sound.law p pl
+
+  state : own.state ≡ Climbing
+  state = F.state
 
   climbing : state_number own.state ≡ 1
   climbing = ap state_number state
@@ -323,8 +325,9 @@ module _ (b : BoxState) (G : Ghost) (p : ℕ) (R : Related b G) (pl : p < seats_
   -- it waits at a gate
   closes_at : (place_number own.place ≡ 14) ⊎ ((5 ≤ place_number own.place) × (place_number own.place ≤ 8)) → Gives (goes_to (marked own) CloseApply)
   closes_at d =
-      let past : place_number own.place ≢ 2 = λ e. elim d [ inl q ↦ omega arith | inr q ↦ let l = q.0 in omega arith ] in
-      let up : 1 ≤ own.height = (own-low b.ways own own_law state) in
+      let late : 5 ≤ place_number own.place = elim d [ inl q ↦ omega arith | inr q ↦ q.0 ] in
+      let past : place_number own.place ≢ 2 = λ e. omega arith in
+      let up : 1 ≤ own.height = let q = F.low in omega arith in
       let n = stands_climbing own state past up in
       let A = acts_at b G p R pl n in
       let h = own.height in
@@ -334,7 +337,7 @@ module _ (b : BoxState) (G : Ghost) (p : ℕ) (R : Related b G) (pl : p < seats_
       let v = stand_of own in
       let stage : v.stage ≡ 1 = ap stage_in state in
       let t = goes_to (marked own) CloseApply in
-      let early : place_number own.place ≤ 14 = elim d [ inl q ↦ omega arith | inr q ↦ let l = q.1 in omega arith ] in
+      let upto : place_number own.place ≤ 16 = F.upto in
       go A (writes_nothing A) t f Nothing (λ j l o r. refl) (λ j l o. tt) n
       (record { law = closing-lawful w own own_law state; state = refl; height = refl; handed = refl; passage = refl; within = λ e. omega arith; begun = λ e. omega arith; later = λ r. absurd (omega arith) })
       (elim d [
@@ -347,8 +350,8 @@ module _ (b : BoxState) (G : Ghost) (p : ℕ) (R : Related b G) (pl : p < seats_
         | inr q ↦ give_up_pawn w h (heights_of w) f (c₀ A) i (here A) v (x₀ A) (cells_ok A) (way_ok A n) stage q.0 q.1
       ]))
 
-  gives : FreshAt b.ways own → Gives (given_up own)
-  gives F =
+  gives : Gives (given_up own)
+  gives =
       let x = place_number own.place in
       cond_both (eqb x 2) _ _ Gives (λ e. backs (eqb-true _ _ e))
       (λ e.
@@ -369,7 +372,7 @@ keeps_give_up b G p n x R e =
     let pl = A.enters.reach.inside in
     let s = seat_at b p in
     let c = climbs_is s A.climbs in
-    let y = gives b G p R pl c (fresh_at b.ways s (parts_from_lawful b.ways s A.enters.law (λ z. let d = A.climbs in omega arith)) c A.unmarked) in
+    let y = gives b G p R pl (fresh_at b.ways s (parts_from_lawful b.ways s A.enters.law (λ z. let d = A.climbs in omega arith)) c A.unmarked) in
     (y.0, subst (λ (a : BoxState). Related a y.0) (sym A.after) y.1)
 
 pub keeps_publish : (b : BoxState) (G : Ghost) (p n x : ℕ) → Related b G → (published b p n).answer ≡ Ok x → (G' : Ghost) × Related (published b p n).after G'
