@@ -1,9 +1,9 @@
 -- The relation between gates, ways and seats that every call of a run keeps. Assumes nothing.
---     YetAt s k    the seat climbs, and has not yet entered the gate that it meets at height k
---     Sound b      each seat by itself, and their passages
---     Linked b G   the occupants are those seats that occupy the gate
---     Gated b G    every gate is in its phase
---     Related b G  all of this
+--     YetAt s k       the seat climbs, and has not yet entered the gate that it meets at height k
+--     Sound b         each seat by itself, and their passages
+--     Linked b G      the occupants are those seats that occupy the gate
+--     GateAt b G k g  gate g of height k is in its phase
+--     Related b G     all of this
 use Rattle.std.proofs.Common.{◌≡◌, ℕ, ◌+◌, ◌^◌, ◌<◌, ◌≤◌, true, ◌≢◌, ◌⊎◌, length}
 use Rattle.layout.specs.Gates.{heights_of, seats_of, cells_of, gate_of, way_of}
 use Rattle.seats.specs.declared.seat.Seat.{Seat}
