@@ -1,4 +1,4 @@
-ghost use Rattle.std.specs.Prelude.{◌≡◌, length, MatchResult, OnOk};
+ghost use Rattle.std.specs.Prelude.{◌≡◌, ℕ, take, length, MatchResult, OnOk};
 ghost use Rattle.lock.specs.Calls.{cleared};
 ghost use Rattle.laws.specs.Law.{Law};
 ghost use Rattle.laws.specs.Runs.{Performs, Unperformed};
@@ -37,7 +37,8 @@ impl From<AllocError> for PerformFault {
     }
 }
 
-// Opens a box, makes the calls one after the other, and answers what each of them got. The law of runs holds of them.
+// Opens a box, makes the calls one after the other, and answers what each of them got. The law of runs holds of the
+// first k of them, for every k.
 pub fn perform<S: Store>(
     heap: Global,
     ways: u8,
@@ -46,7 +47,7 @@ pub fn perform<S: Store>(
     calls: &[Call],
 ) -> Result<Vec<Got>, PerformFault>
     ensures performs { MatchResult result (λ v. Performs ways table.old (S.words store.old) calls.now v.items table.new (S.words store.new)) (λ e. Unperformed ways table.old (S.words store.old) e table.new (S.words store.new)) }
-    ensures law { OnOk result (Law calls.now (cleared ways table.old (S.words store.old))) }
+    ensures law { OnOk result ((k : ℕ) → Law (take k calls.now) (cleared ways table.old (S.words store.old))) }
 {
     let mut got = Vec::with_capacity(heap, calls.len())?;
     let mut record = open(ways, store, table)?;
