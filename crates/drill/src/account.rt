@@ -1,7 +1,6 @@
 // The summary of a run.
-use crate::plan::SEATS;
+use crate::plan::{Plan, SEATS};
 use crate::row::Note;
-use crate::turn::Turn;
 use laws::{Call, Got};
 use layout::{Passage, SeatId};
 use script::{Event, Longest, Out, Refusals};
@@ -47,25 +46,37 @@ struct Course {
     out: Out,
 }
 
-// A publish that was accepted.
+// A publish that was accepted. Its text is found when it is told: beside each publish it would double what is kept.
 #[derive(Clone, Copy)]
-struct Published<'a> {
+struct Published {
     at: usize,
     seat: SeatId,
     passage: Passage,
+}
+
+impl Published {
+    // The call that it was.
+    fn call(self) -> Call {
+        let Published { seat, passage, .. } = self;
+        Call::Publish { seat, passage }
+    }
+}
+
+// A publish with its text, as it is told.
+#[derive(Clone, Copy)]
+struct Publication<'a> {
+    published: Published,
     text: &'a [u8],
 }
 
-impl fmt::Display for Published<'_> {
+impl fmt::Display for Publication<'_> {
     fn fmt<W: fmt::Write>(&self, f: &mut fmt::Formatter<W>) -> fmt::Result {
-        let Published {
-            at,
-            seat,
-            passage,
-            text,
-        } = *self;
+        let Published { at, seat, passage } = self.published;
         let number = at.saturating_add(1);
-        let note = Note { lead: ": ", text };
+        let note = Note {
+            lead: ": ",
+            text: self.text,
+        };
         write!(
             f,
             "published: call {number}, seat {seat}, passage {passage}{note}"
@@ -75,10 +86,10 @@ impl fmt::Display for Published<'_> {
 
 // What is kept of the calls so far.
 #[derive(Drop)]
-pub struct Account<'a> {
+pub struct Account {
     courses: Vec<Course>,
     holdings: Vec<Holding>,
-    published: Vec<Published<'a>>,
+    published: Vec<Published>,
     events: BTreeMap<Event, u32>,
     refusals: Refusals,
     longest: Longest,
@@ -88,9 +99,9 @@ pub struct Account<'a> {
     accepted: usize,
 }
 
-impl<'a> Account<'a> {
+impl Account {
     // The account of a run without calls.
-    pub fn new(heap: Global) -> Result<Account<'a>, AllocError> {
+    pub fn new(heap: Global) -> Result<Account, AllocError> {
         let course = Course {
             record: Seat::away(),
             out: Out::Within,
@@ -109,14 +120,13 @@ impl<'a> Account<'a> {
     }
 
     // Takes the next call into account.
-    pub fn take(&mut self, at: usize, turn: Turn<'a>, got: Got) -> Result<(), AllocError> {
+    pub fn take(&mut self, at: usize, call: Call, got: Got) -> Result<(), AllocError> {
         self.calls = self.calls.saturating_add(1);
         if let Err(refusal) = got.answer {
             self.refusals.add(refusal.number);
             return Ok(());
         }
         self.accepted = self.accepted.saturating_add(1);
-        let Turn { call, note } = turn;
         let seat = call.seat();
         let Some(course) = self.courses.get_mut(usize::from(seat.0)) else {
             return Ok(());
@@ -130,12 +140,9 @@ impl<'a> Account<'a> {
         self.longest = self.longest.with(after.out);
         match call {
             Call::Poll { .. } => self.count(before.record, after.record)?,
-            Call::Publish { seat, passage } => self.published.push(Published {
-                at,
-                seat,
-                passage,
-                text: note,
-            })?,
+            Call::Publish { seat, passage } => self
+                .published
+                .push(Published { at, seat, passage })?,
             _ => {}
         }
         self.hold(at, seat, before.record, after.record)
@@ -188,8 +195,8 @@ impl<'a> Account<'a> {
             .count()
     }
 
-    // Tells the summary of the calls that were made.
-    pub fn tell(&self, rt: &HostRuntime) -> anyhow::Result<()> {
+    // Tells the summary of the calls of a plan that were made.
+    pub fn tell(&self, rt: &HostRuntime, plan: &Plan<'_>) -> anyhow::Result<()> {
         let refused = self.calls.saturating_sub(self.accepted);
         println!(rt;
             "calls: {}, accepted {}, refused {refused}",
@@ -201,7 +208,12 @@ impl<'a> Account<'a> {
         let times = self.holdings.len();
         println!(rt; "holdings: {times}, at most {} at once", self.most_holders)?;
         for published in &self.published {
-            println!(rt; "{published}")?;
+            let text = plan.turn(published.at, published.call()).note;
+            let publication = Publication {
+                published: *published,
+                text,
+            };
+            println!(rt; "{publication}")?;
         }
         self.tell_counts(rt)
     }

@@ -1,7 +1,6 @@
 // A random day: calls of a few busy seats, chosen by what a box in memory says of them.
 use crate::dice::Dice;
 use crate::plan::{CELLS, Plan, SEATS};
-use crate::turn::Turn;
 use anyhow::anyhow;
 use laws::Call;
 use layout::{BoxRecord, Passage, SeatId};
@@ -48,15 +47,13 @@ impl Day {
     }
 
     // The day as it is played, with calls that have no text.
-    pub fn plan(&self, heap: Global) -> anyhow::Result<Plan<'static>> {
-        Ok(Plan {
+    pub fn plan(self, heap: Global) -> Plan<'static> {
+        Plan {
             ways: self.record.ways(),
-            turns: self
-                .calls
-                .iter()
-                .map(|call| Turn::silent(*call))
-                .collect(heap)?,
-        })
+            calls: self.calls,
+            starts: Vec::new(heap),
+            text: &[],
+        }
     }
 
     // Adds a call, and makes it on the day's own box.

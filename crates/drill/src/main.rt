@@ -88,7 +88,7 @@ fn random(
     for _ in 0..count {
         day.add()?;
     }
-    let plan = day.plan(rt.alloc())?;
+    let plan = day.plan(rt.alloc());
     let mut cells = vec![in rt.alloc(); 0; CELLS]?;
     let got = plan.play(rt, &mut Memory::new(cells.as_mut_slice()))?;
     plan.tell(rt, got.as_slice(), detail)

@@ -5,7 +5,7 @@ use crate::turn::Turn;
 use anyhow::anyhow;
 use laws::{Call, Got, PerformFault, perform};
 use layout::Refusal;
-use script::read_script;
+use script::{Entry, read_script};
 use seats::Seat;
 use store::Store;
 
@@ -28,33 +28,36 @@ pub enum Detail {
 #[derive(Drop)]
 pub struct Plan<'a> {
     pub ways: u8,
-    pub turns: Vec<Turn<'a>>,
+    // apart from what belongs to each, since the box is lent them as they are: a list of turns beside them costs more
+    // than the calls and what they got
+    pub calls: Vec<Call>,
+    // where in the text the line of each call begins; none where no text says the calls
+    pub starts: Vec<usize>,
+    pub text: &'a [u8],
 }
 
 impl<'a> Plan<'a> {
     // The plan that a script says.
     pub fn read(rt: &HostRuntime, text: &'a [u8]) -> anyhow::Result<Plan<'a>> {
         let script = read_script(rt.alloc(), text)?;
+        let entries = script.entries.as_slice();
         Ok(Plan {
             ways: script.ways,
-            turns: script
-                .entries
-                .iter()
-                .map(|entry| Turn::written(*entry, text))
-                .collect(rt.alloc())?,
+            calls: entries.iter().map(|entry| entry.call).collect(rt.alloc())?,
+            starts: entries.iter().map(|entry| entry.start).collect(rt.alloc())?,
+            text,
         })
     }
 
     // Opens a box and makes the calls.
     pub fn play<S: Store>(&self, rt: &HostRuntime, store: &mut S) -> anyhow::Result<Vec<Got>> {
         let mut table = vec![in rt.alloc(); Seat::away(); SEATS]?;
-        let calls: Vec<Call> = self.turns.iter().map(|turn| turn.call).collect(rt.alloc())?;
         perform(
             rt.alloc(),
             self.ways,
             store,
             table.as_mut_slice(),
-            calls.as_slice(),
+            self.calls.as_slice(),
         )
         .map_err(|fault| match fault {
             PerformFault::Memory => anyhow!("no memory for the answers"),
@@ -68,13 +71,27 @@ impl<'a> Plan<'a> {
     // Tells what the calls got, and sums it up.
     pub fn tell(&self, rt: &HostRuntime, got: &[Got], detail: Detail) -> anyhow::Result<()> {
         let mut account = Account::new(rt.alloc())?;
-        for (at, (turn, got)) in self.turns.iter().zip(got).enumerate() {
-            account.take(at, *turn, *got)?;
+        for (at, (call, got)) in self.calls.iter().zip(got).enumerate() {
+            account.take(at, *call, *got)?;
             if detail == Detail::Lines {
-                let report = Report::new(at, *turn, *got);
+                let report = Report::new(at, self.turn(at, *call), *got);
                 println!(rt; "{report}")?;
             }
         }
-        account.tell(rt)
+        account.tell(rt, self)
+    }
+
+    // A call with the text that it has.
+    pub fn turn(&self, at: usize, call: Call) -> Turn<'a> {
+        match self.starts.get(at) {
+            Some(start) => Turn::written(
+                Entry {
+                    call,
+                    start: *start,
+                },
+                self.text,
+            ),
+            None => Turn::silent(call),
+        }
     }
 }

@@ -3,6 +3,7 @@
 --     course-end    a session with no input left
 --     next_more     what the reader finds stays, whatever bytes come after a rest that does not wait for any
 --     next_fits     a message that was read lies in the rest
+--     place_by_lem  the reader's place by the next message
 --     placed        the reader's place by what it finds
 --     waits_by      whether a rest waits, by its version, its length and its size
 --     size_kept     what follows a message that was read stays too
@@ -112,7 +113,7 @@ size_kept rest xs q e =
     let f = next_fits rest q e in
     ap (λ n. drop (3 + n) (rest ++ xs)) (size_more rest xs (omega arith)) ∙ drop-append-le (3 + size_in rest) rest xs f
 
-place_by_lem : (at : ℕ) (rest : List ℕ) → place_of at rest ≡ place_by at rest (next_of rest)
+pub place_by_lem : (at : ℕ) (rest : List ℕ) → place_of at rest ≡ place_by at rest (next_of rest)
 unfolding place_of
 place_by_lem at rest = refl
 

@@ -33,6 +33,7 @@ impl ImageFault {
     pub fn number(self) -> u8
         ensures { result ≡ image_number self }
     {
+        // the discriminants are the numbers
         self as u8
     }
 }

@@ -1,7 +1,7 @@
 use Rattle.std.proofs.Common.{rules}
 use Rattle.lock.specs.Locks.{state_in}
 use Rattle.line.proofs.CutLaws.{cuts}
-use Rattle.line.proofs.LoopLaws.{goes_on_lem, nearer, stops}
+use Rattle.line.proofs.LoopLaws.{goes_on_still, nearer, stops}
 use Rattle.line.proofs.PauseLaws.{stops_left}
 use Rattle.line.proofs.stream.answer_all.Goals as goal
 
@@ -25,7 +25,7 @@ loop-pause-smaller g c =
 pub loop-pause-preserved : goal.loop-pause-preserved
 loop-pause-preserved g c =
     record {
-      turns = goes_on_lem _ c.args.input.now _ _ c.loop-pause.invariant.within c.loop-pause.invariant.turns _ _ _ _ c.in_default.ensures.turns;
+      turns = goes_on_still _ c.args.input.now _ _ c.loop-pause.invariant.within c.loop-pause.invariant.turns _ _ _ _ c.in_default.ensures.turns;
       within = c.advance.ensures.within;
       loans = search rules;
     }
