@@ -64,12 +64,12 @@ impl Published {
 
 // A publish with its text, as it is told.
 #[derive(Clone, Copy)]
-struct Publication<'a> {
+struct PublishLine<'a> {
     published: Published,
     text: &'a [u8],
 }
 
-impl fmt::Display for Publication<'_> {
+impl fmt::Display for PublishLine<'_> {
     fn fmt<W: fmt::Write>(&self, f: &mut fmt::Formatter<W>) -> fmt::Result {
         let Published { at, seat, passage } = self.published;
         let number = at.saturating_add(1);
@@ -209,11 +209,11 @@ impl Account {
         println!(rt; "holdings: {times}, at most {} at once", self.most_holders)?;
         for published in &self.published {
             let text = plan.turn(published.at, published.call()).note;
-            let publication = Publication {
+            let line = PublishLine {
                 published: *published,
                 text,
             };
-            println!(rt; "{publication}")?;
+            println!(rt; "{line}")?;
         }
         self.tell_counts(rt)
     }

@@ -28,8 +28,8 @@ pub enum Detail {
 #[derive(Drop)]
 pub struct Plan<'a> {
     pub ways: u8,
-    // apart from what belongs to each, since the box is lent them as they are: a list of turns beside them costs more
-    // than the calls and what they got
+    // apart from where their lines begin, since the box is lent the calls as they are: a list of both would be a second
+    // copy of each call
     pub calls: Vec<Call>,
     // where in the text the line of each call begins; none where no text says the calls
     pub starts: Vec<usize>,

@@ -1,4 +1,4 @@
-// The calls of a run, one after the other.
+// One call of a run, as it is told.
 use laws::Call;
 use script::{Entry, note_at};
 
